@@ -1,0 +1,9 @@
+-- What a reader must believe, in the order in which it is read beside document 01.
+pub mod Numbers
+pub mod Events
+pub mod Machine
+pub mod Text
+pub mod Image
+pub mod Layout
+pub mod Bytes
+pub mod Examples
