@@ -2,9 +2,10 @@
 use mathlib.Core.Bool.{cond}
 use mathlib.Core.List.{List, [], _∷_, _++_, map}
 use Prim.Native.Nat.{ℕ, zero, suc, _+_, _-_, _*_, _/_, _%_}
-use lib.ListN.{length, getD}
-use lib.Dec.{eqb}
+use lib.ListN.{length, getD, drop}
+use lib.Dec.{eqb, leb}
 use Rattle.meaning.specs.declared.Row.{Row}
+use Rattle.meaning.specs.declared.Fields.{Fields}
 use Rattle.meaning.specs.declared.Port.{Port}
 use Rattle.meaning.specs.declared.Port.the-variants.{Nil, On}
 use Rattle.meaning.specs.declared.Op.the-variants.{Send, Forward, Recv}
@@ -19,18 +20,10 @@ use Rattle.meaning.specs.Layout.{rowsT, firstRows}
 
 -- ROWS
 
--- "op, chan, arg (2), next (2), other (2); a field with no use is 0"
-pub record Fields : Type 0 where
-  pub op : ℕ
-  pub chan : ℕ
-  pub arg : ℕ
-  pub next : ℕ
-  pub other : ℕ
-
 abbrev pub fields : ℕ → ℕ → ℕ → ℕ → ℕ → Fields
 fields o c a n m = record { op = o; chan = c; arg = a; next = n; other = m }
 
--- The table of the rows, written.
+-- The table of the rows, written: "a field with no use is 0; nil is chan 255".
 abbrev pub fieldsOf : Statement → Fields
 fieldsOf (Do (Send p v) n) = fields 1 (portNumber p) v (n .0) 0
 fieldsOf (Do (Forward p) n) = fields 2 (portNumber p) 0 (n .0) 0
@@ -120,57 +113,63 @@ byteAt bs i = getD bs i 0
 abbrev pub wordAt : List ℕ → ℕ → ℕ
 wordAt bs i = byteAt bs i + 256 * byteAt bs (i + 1)
 
-unfoldable pub trailerAt : List ℕ → ℕ
-trailerAt bs = length bs - trailerSize
+-- The trailer, and what it says.
+unfoldable pub trailerOf : List ℕ → List ℕ
+trailerOf bs = drop (length bs - trailerSize) bs
 
 unfoldable pub rowCount : List ℕ → ℕ
-rowCount bs = wordAt bs (trailerAt bs)
+rowCount bs = wordAt (trailerOf bs) 0
 
 unfoldable pub channelCount : List ℕ → ℕ
-channelCount bs = byteAt bs (trailerAt bs + 2)
+channelCount bs = byteAt (trailerOf bs) 2
 
 unfoldable pub taskCount : List ℕ → ℕ
-taskCount bs = byteAt bs (trailerAt bs + 3)
+taskCount bs = byteAt (trailerOf bs) 3
 
 unfoldable pub distance : List ℕ → ℕ
-distance bs = wordAt bs (trailerAt bs + 4)
+distance bs = wordAt (trailerOf bs) 4
 
 unfoldable pub markOf : List ℕ → ℕ
-markOf bs = byteAt bs (trailerAt bs + 6)
+markOf bs = byteAt (trailerOf bs) 6
 
 unfoldable pub versionOf : List ℕ → ℕ
-versionOf bs = byteAt bs (trailerAt bs + 7)
+versionOf bs = byteAt (trailerOf bs) 7
 
--- Where row 0 stands, the first capacity and the first of the first rows.
-unfoldable pub rowsStart : List ℕ → ℕ
-rowsStart bs = trailerAt bs - distance bs
-
-unfoldable pub capacitiesStart : List ℕ → ℕ
-capacitiesStart bs = rowsStart bs + rowSize * rowCount bs
-
-unfoldable pub firstsStart : List ℕ → ℕ
-firstsStart bs = capacitiesStart bs + channelCount bs
+-- The image from row 0 on.
+unfoldable pub bodyOf : List ℕ → List ℕ
+bodyOf bs = drop ((length bs - trailerSize) - distance bs) bs
 
 abbrev pub fieldsAt : List ℕ → ℕ → Fields
-fieldsAt bs i = fields (byteAt bs i) (byteAt bs (i + 1)) (wordAt bs (i + 2)) (wordAt bs (i + 4)) (wordAt bs (i + 6))
+fieldsAt rs i = fields (byteAt rs i) (byteAt rs (i + 1)) (wordAt rs (i + 2)) (wordAt rs (i + 4)) (wordAt rs (i + 6))
 
+-- The fields of a row, where rs is the image from row 0 on; all 0 where the slice ends ahead of the row's end.
 unfoldable pub fieldsOfRow : List ℕ → Row → Fields
-fieldsOfRow bs r = fieldsAt bs (rowsStart bs + rowSize * r .0)
+fieldsOfRow rs r = cond (leb (rowSize * r .0 + rowSize) (length rs)) (fieldsAt rs (rowSize * r .0)) (fields 0 0 0 0 0)
 
-unfoldable pub rowsOf : List ℕ → Rows
-rowsOf bs r = statementOf (fieldsOfRow bs r)
+unfoldable pub rowsIn : List ℕ → Rows
+rowsIn rs r = statementOf (fieldsOfRow rs r)
 
-unfoldable pub capacityOf : List ℕ → ℕ → ℕ
-capacityOf bs c = byteAt bs (capacitiesStart bs + c)
+-- The capacity of channel c behind so many rows, and the first row of task t behind so many rows and channels.
+unfoldable pub capacityIn : List ℕ → ℕ → ℕ → ℕ
+capacityIn rs rows c = byteAt rs (rowSize * rows + c)
 
-unfoldable pub firstRowOf : List ℕ → ℕ → Row
-firstRowOf bs t = rowNo (wordAt bs (firstsStart bs + 2 * t))
+unfoldable pub firstRowIn : List ℕ → ℕ → ℕ → ℕ → Row
+firstRowIn rs rows channels t = rowNo (wordAt rs (rowSize * rows + channels + 2 * t))
 
 -- f at n numbers from i on.
 unfoldable pub listed : {A : Type 0} → (ℕ → A) → ℕ → ℕ → List A
 listed f zero i = []
 listed f (suc n) i = f i ∷ listed f n (suc i)
 
--- A fresh start of an image.
+-- The rows of an image, its capacities and first rows, and a fresh start.
+unfoldable pub rowsOf : List ℕ → Rows
+rowsOf bs = rowsIn (bodyOf bs)
+
+unfoldable pub capacitiesOf : List ℕ → List ℕ
+capacitiesOf bs = listed (capacityIn (bodyOf bs) (rowCount bs)) (channelCount bs) 0
+
+unfoldable pub firstRowsOf : List ℕ → List Row
+firstRowsOf bs = listed (firstRowIn (bodyOf bs) (rowCount bs) (channelCount bs)) (taskCount bs) 0
+
 unfoldable pub startOf : List ℕ → Machine Spot
-startOf bs = imageStart (listed (capacityOf bs) (channelCount bs) 0) (listed (firstRowOf bs) (taskCount bs) 0)
+startOf bs = imageStart (capacitiesOf bs) (firstRowsOf bs)

@@ -42,6 +42,15 @@ pub enum Statement {
     Stop,
 }
 
+// The five fields of a row, as its eight bytes hold them: "op, chan, arg (2), next (2), other (2)".
+pub struct Fields {
+    pub op: u8,
+    pub chan: u8,
+    pub arg: u16,
+    pub next: u16,
+    pub other: u16,
+}
+
 // The three states of a task that a listing prints as 0, 1, 2.
 pub enum Status {
     Able,
