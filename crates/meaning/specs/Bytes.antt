@@ -9,6 +9,7 @@ use Rattle.meaning.specs.declared.Fields.{Fields}
 use Rattle.meaning.specs.declared.Port.{Port}
 use Rattle.meaning.specs.declared.Port.the-variants.{Nil, On}
 use Rattle.meaning.specs.declared.Op.the-variants.{Send, Forward, Recv}
+use Rattle.meaning.specs.declared.Otherwise.{Otherwise}
 use Rattle.meaning.specs.declared.Otherwise.the-variants.{Wait, Go}
 use Rattle.meaning.specs.declared.Statement.{Statement}
 use Rattle.meaning.specs.declared.Statement.the-variants.{Do, Close, Range, Repeat, Ifok, Select, Case, Stop}
@@ -24,7 +25,7 @@ abbrev pub fields : ℕ → ℕ → ℕ → ℕ → ℕ → Fields
 fields o c a n m = record { op = o; chan = c; arg = a; next = n; other = m }
 
 -- The table of the rows, written: "a field with no use is 0; nil is chan 255".
-abbrev pub fieldsOf : Statement → Fields
+unfoldable pub fieldsOf : Statement → Fields
 fieldsOf (Do (Send p v) n) = fields 1 (portNumber p) v (n .0) 0
 fieldsOf (Do (Forward p) n) = fields 2 (portNumber p) 0 (n .0) 0
 fieldsOf (Do (Recv p) n) = fields 3 (portNumber p) 0 (n .0) 0
@@ -42,8 +43,12 @@ fieldsOf Stop = fields 12 0 0 0 0
 abbrev pub portOf : ℕ → Port
 portOf n = cond (eqb n 255) Nil (On (record { 0 = n }))
 
+-- "select: .. arg 1 with default, next its body"
+abbrev pub otherwiseOf : ℕ → Row → Otherwise
+otherwiseOf arg next = cond (eqb arg 1) (Go next) Wait
+
 -- The same table, read: the row of each op, from 0 on. (An image that passes the check has ops 1 to 12 alone.)
-abbrev pub statementOf : Fields → Statement
+unfoldable pub statementOf : Fields → Statement
 statementOf f =
     getD
     (Stop
@@ -54,7 +59,7 @@ statementOf f =
     ∷ Range (portOf (f .chan)) (rowNo (f .next)) (rowNo (f .other))
     ∷ Repeat (f .chan) (f .arg) (rowNo (f .next)) (rowNo (f .other))
     ∷ Ifok (rowNo (f .next)) (rowNo (f .other))
-    ∷ Select (f .chan) (cond (eqb (f .arg) 1) (Go (rowNo (f .next))) Wait)
+    ∷ Select (f .chan) (otherwiseOf (f .arg) (rowNo (f .next)))
     ∷ Case (Send (portOf (f .chan)) (f .arg)) (rowNo (f .next))
     ∷ Case (Forward (portOf (f .chan))) (rowNo (f .next))
     ∷ Case (Recv (portOf (f .chan))) (rowNo (f .next))
@@ -110,8 +115,11 @@ jobImage j = imageBytes (rowsT (j .tasks) 0) (j .capacities) (firstRows (j .task
 abbrev pub byteAt : List ℕ → ℕ → ℕ
 byteAt bs i = getD bs i 0
 
+abbrev pub word : ℕ → ℕ → ℕ
+word low high = low + 256 * high
+
 abbrev pub wordAt : List ℕ → ℕ → ℕ
-wordAt bs i = byteAt bs i + 256 * byteAt bs (i + 1)
+wordAt bs i = word (byteAt bs i) (byteAt bs (i + 1))
 
 -- The trailer, and what it says.
 unfoldable pub trailerOf : List ℕ → List ℕ
@@ -140,7 +148,11 @@ unfoldable pub bodyOf : List ℕ → List ℕ
 bodyOf bs = drop ((length bs - trailerSize) - distance bs) bs
 
 abbrev pub fieldsAt : List ℕ → ℕ → Fields
-fieldsAt rs i = fields (byteAt rs i) (byteAt rs (i + 1)) (wordAt rs (i + 2)) (wordAt rs (i + 4)) (wordAt rs (i + 6))
+fieldsAt rs i =
+    fields (byteAt rs i) (byteAt rs (i + 1))
+    (word (byteAt rs (i + 2)) (byteAt rs (i + 3)))
+    (word (byteAt rs (i + 4)) (byteAt rs (i + 5)))
+    (word (byteAt rs (i + 6)) (byteAt rs (i + 7)))
 
 -- The fields of a row, where rs is the image from row 0 on; all 0 where the slice ends ahead of the row's end.
 unfoldable pub fieldsOfRow : List ℕ → Row → Fields

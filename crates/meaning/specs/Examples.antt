@@ -18,7 +18,7 @@ use Rattle.meaning.specs.Bytes as b
 use Rattle.meaning.specs.Text.{operate, close, stop, range, repeat, ifok, select, Body, empty, _▸_, nomore, default, case, Job, Remainder, enter, textRepeat, textCases, textDefault, textStmt, textItem, textLook, textStart}
 use Rattle.meaning.specs.Image.{Spot, imageCase, imageCases, imageDefault, imageRepeat, imageStatement, imageLook, imageStart}
 use Rattle.meaning.specs.Layout.{caseCount, sizeB, entry, caseRows, defaultRow, rowsB, rowsT, firstRows}
-use Rattle.meaning.specs.Bytes.{rowBytes, firstBytes, imageBytes, jobImage, trailerOf, rowCount, channelCount, taskCount, distance, bodyOf, fieldsOfRow, rowsIn, capacityIn, firstRowIn, rowsOf, capacitiesOf, firstRowsOf, startOf}
+use Rattle.meaning.specs.Bytes.{fieldsOf, statementOf, rowBytes, firstBytes, imageBytes, jobImage, trailerOf, rowCount, channelCount, taskCount, distance, bodyOf, fieldsOfRow, rowsIn, capacityIn, firstRowIn, rowsOf, capacitiesOf, firstRowsOf, startOf}
 
 -- A LISTING, as document 01 prints it ('A listing, whole'), with R for what stands for a row.
 
@@ -331,5 +331,5 @@ due e = (
 )
 
 examples-hold : map found examples ≡ map due examples
-unfolding found due imageOf listing last turnLines taskLines channelLines numbers isOn receivesOn sendsOn payload without wakeAll sendOn receiveOn closeOn choose casesOf firstCase waiterBy addIf waiterAt waitersIn waiters sendTo receiveFrom attempt ready m.close act turnAs turnOf turnIf m.turn runs fresh enter textRepeat textCases textDefault textStmt textItem textLook textStart imageCase imageCases imageDefault imageRepeat imageStatement imageLook imageStart caseCount sizeB entry caseRows defaultRow rowsB rowsT firstRows rowBytes firstBytes imageBytes jobImage trailerOf rowCount channelCount taskCount distance bodyOf fieldsOfRow rowsIn capacityIn firstRowIn rowsOf capacitiesOf firstRowsOf b.listed startOf
+unfolding found due imageOf listing last turnLines taskLines channelLines numbers isOn receivesOn sendsOn payload without wakeAll sendOn receiveOn closeOn choose casesOf firstCase waiterBy addIf waiterAt waitersIn waiters sendTo receiveFrom attempt ready m.close act turnAs turnOf turnIf m.turn runs fresh enter textRepeat textCases textDefault textStmt textItem textLook textStart imageCase imageCases imageDefault imageRepeat imageStatement imageLook imageStart caseCount sizeB entry caseRows defaultRow rowsB rowsT firstRows fieldsOf statementOf rowBytes firstBytes imageBytes jobImage trailerOf rowCount channelCount taskCount distance bodyOf fieldsOfRow rowsIn capacityIn firstRowIn rowsOf capacitiesOf firstRowsOf b.listed startOf
 examples-hold = refl
