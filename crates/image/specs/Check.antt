@@ -16,8 +16,9 @@ use Rattle.meaning.specs.declared.Statement.the-variants.{Do, Close, Range, Rep
 use Rattle.meaning.specs.declared.Fields.{Fields}
 use Rattle.meaning.specs.Numbers.{rowLimit, channelLimit, taskLimit, capacityLimit, caseLimit, lapLimit, depthLimit, imageTooShort, badMark, badVersion, badCounts, badDistance, badRow, badCapacity, badFirstRow}
 use Rattle.meaning.specs.Image.{rowNo}
-use Rattle.meaning.specs.Bytes.{fieldsOf, statementOf, trailerSize, imageMark, imageVersion, spanOf, byteAt, wordAt, trailerOf, markOf, versionOf, bodyOf, fieldsOfRow, capacityIn, firstRowIn}
-use Rattle.image.specs.declared.Counts.{Counts}
+use Rattle.meaning.specs.Bytes.{fieldsOf, statementOf, trailerSize, imageMark, imageVersion, spanOf, markOf, versionOf, bodyOf, fieldsOfRow, capacityIn, firstRowIn}
+use Rattle.rows.specs.declared.Counts.{Counts}
+use Rattle.rows.specs.Rows.{countsOf}
 use Rattle.image.specs.declared.Checked.{Checked}
 use Rattle.image.specs.declared.Checked.the-variants.{Good, Refused}
 use Rattle.image.specs.declared.First.{First}
@@ -111,12 +112,6 @@ module _ (rs : List ℕ) where
       firstRowBad t = not (isTarget (firstRowIn rs rows channels t))
 
 -- THE CHECK
-
-unfoldable pub countsIn : List ℕ → Counts
-countsIn t = record { rows = wordAt t 0; channels = byteAt t 2; tasks = byteAt t 3; back = wordAt t 4 }
-
-unfoldable pub countsOf : List ℕ → Counts
-countsOf bs = countsIn (trailerOf bs)
 
 -- The first of the n numbers from i on that is bad.
 unfoldable pub firstOf : (ℕ → Bool) → ℕ → ℕ → First

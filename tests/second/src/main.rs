@@ -1,0 +1,79 @@
+//! A second listing program, written from document 01 alone, to be compared
+//! with another: it lists one input, generates inputs with their listings from
+//! a seed, and tallies what generated listings hold.
+
+mod generate;
+mod image;
+mod job;
+mod listing;
+mod machine;
+mod numbers;
+mod tally;
+mod text;
+
+use std::error::Error;
+use std::io::{Read, Write};
+use std::path::Path;
+use std::process::ExitCode;
+use std::{env, fs, io};
+
+use tally::Tally;
+
+const USAGE: &str = "usage: second list < INPUT
+       second generate SEED COUNT DIR
+       second tally DIR";
+
+type Done = Result<(), Box<dyn Error>>;
+
+fn main() -> ExitCode {
+    let arguments: Vec<String> = env::args().skip(1).collect();
+    let arguments: Vec<&str> = arguments.iter().map(String::as_str).collect();
+    let done = match arguments.as_slice() {
+        ["list"] => list(),
+        ["generate", seed, count, dir] => generate(seed, count, Path::new(dir)),
+        ["tally", dir] => tally(Path::new(dir)),
+        _ => Err(USAGE.into()),
+    };
+    match done {
+        Ok(()) => ExitCode::SUCCESS,
+        Err(error) => {
+            eprintln!("{error}");
+            ExitCode::FAILURE
+        }
+    }
+}
+
+/// Standard input to standard output; one byte past the limit is enough to
+/// know that the input is too long.
+fn list() -> Done {
+    let mut input = Vec::new();
+    let most = listing::INPUT_LIMIT as u64 + 1;
+    io::stdin().take(most).read_to_end(&mut input)?;
+    io::stdout().write_all(listing::list(&input).as_bytes())?;
+    Ok(())
+}
+
+fn generate(seed: &str, count: &str, dir: &Path) -> Done {
+    let (seed, count): (u64, u64) = (seed.parse()?, count.parse()?);
+    fs::create_dir_all(dir)?;
+    for index in 0..count {
+        let input = generate::input(seed, index);
+        fs::write(dir.join(format!("{index:06}.in")), &input)?;
+        let listing = listing::list(&input);
+        fs::write(dir.join(format!("{index:06}.out")), listing)?;
+    }
+    Ok(())
+}
+
+/// Tallies every .out file of a directory.
+fn tally(dir: &Path) -> Done {
+    let mut tally = Tally::new();
+    for entry in fs::read_dir(dir)? {
+        let path = entry?.path();
+        if path.extension().is_some_and(|extension| extension == "out") {
+            tally.count(&fs::read_to_string(path)?);
+        }
+    }
+    print!("{tally}");
+    Ok(())
+}
