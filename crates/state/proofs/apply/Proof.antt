@@ -1,0 +1,20 @@
+use borrow.Author.Needs.{needs}
+use Rattle.state.proofs.apply.Statement.{statement}
+use Rattle.state.proofs.apply.Tie as tie
+
+pub apply-spec : {M : Type 1} → statement M
+apply-spec =
+    tie.close
+    (tie.spec
+    (λ c. search needs)
+    (λ c. search needs)
+    (λ c. search needs)
+    (λ c. search needs)
+    (λ c. search needs)
+    (λ c. search needs)
+    (λ c. search needs)
+    (λ c. search needs)
+    (λ c. search needs)
+    (λ c κs. search needs)
+    (λ c κs. search needs)
+    (λ c. rw (c .wrapping-add-u16 .ensures, c .before .before .before .line-after .ensures)))
