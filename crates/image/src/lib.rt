@@ -5,7 +5,6 @@ ghost use Rattle.image.specs.Check.{rowBad, capacityBad, firstRowBad, fi
 
 mod row;
 
-use meaning::Row;
 use row::is_target;
 use row::owed_after;
 use row::row_good;
@@ -37,7 +36,7 @@ fn first_bad_row(body: &[u8], rows: u16, channels: u8) -> First
     let mut owed: u8 = 0;
     let mut i: u16 = 0;
     while i < rows {
-        let f = fields_of_row(body, Row(i));
+        let f = fields_of_row(body, i as u32);
         if row_good(body, rows, channels, i, owed, f) {
             owed = owed_after(owed, statement_of(f));
             i = i + 1;

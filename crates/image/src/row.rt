@@ -38,7 +38,7 @@ fn in_table(f: Fields) -> bool
 fn is_case_row(body: &[u8], r: Row) -> bool
     ensures { λ b. ⌜ b ≡ isCaseRow (now (body .entry)) r ⌝ }
 {
-    let f = fields_of_row(body, r);
+    let f = fields_of_row(body, r.0 as u32);
     if 9 <= f.op { f.op <= 11 } else { false }
 }
 

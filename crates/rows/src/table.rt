@@ -6,6 +6,7 @@ ghost use lib.Seq.{sets};
 ghost use Rattle.rows.specs.Rows.{rowPut};
 ghost use Rattle.meaning.specs.declared.Statement.the-variants.{Do, Select, Case};
 ghost use Rattle.meaning.specs.Events.{portNumber};
+ghost use Rattle.meaning.specs.Image.{rowNo};
 ghost use Rattle.meaning.specs.Bytes.{portOf, otherwiseOf, fieldsOf, statementOf, bytesOf, fieldsAt, fieldsOfRow, rowsIn, capacityIn, firstRowIn};
 use crate::bytes::byte_at;
 use crate::bytes::word_at;
@@ -56,11 +57,11 @@ fn fields_at(body: &[u8], i: usize) -> Fields
     }
 }
 
-// The fields of row r of an image that begins with row 0; all 0 where the slice ends ahead of the row's end.
-pub fn fields_of_row(body: &[u8], r: Row) -> Fields
-    ensures { λ f. ⌜ f ≡ fieldsOfRow (now (body .entry)) r ⌝ }
+// The fields of the row at number n of an image that begins with row 0; all 0 where the slice ends ahead of the row's end.
+pub fn fields_of_row(body: &[u8], n: u32) -> Fields
+    ensures { λ f. ⌜ f ≡ fieldsOfRow (now (body .entry)) (rowNo n) ⌝ }
 {
-    let at = 8 * (r.0 as usize);
+    let at = 8 * (n as usize);
     if at + 8 <= body.len() {
         return fields_at(body, at);
     }
@@ -108,11 +109,11 @@ fn otherwise_of(arg: u16, next: Row) -> Otherwise
     }
 }
 
-// The statement at row r of an image that begins with row 0.
-pub fn statement_at(body: &[u8], r: Row) -> Statement
-    ensures { λ s. ⌜ s ≡ rowsIn (now (body .entry)) r ⌝ }
+// The statement at row number n of an image that begins with row 0.
+pub fn statement_at(body: &[u8], n: u32) -> Statement
+    ensures { λ s. ⌜ s ≡ rowsIn (now (body .entry)) (rowNo n) ⌝ }
 {
-    statement_of(fields_of_row(body, r))
+    statement_of(fields_of_row(body, n))
 }
 
 // The capacity of channel c, behind so many rows.

@@ -21,11 +21,36 @@ loop-holds c = (search needs, (refl, simp sub-zero))
 
 loop-again : tie.Need-loop-again Inv-loop μ-loop
 unfolding rowBad
-loop-again c = (search needs, (rw (owed-step (now (c .before .before .before .before .before .before .before .before .args .body)) (c .before .before .before .before .before .before .loop .i), ← c .before .before .before .before .before .before .loop .inv .1 .0, ← c .before .before .before .before .fields-of-row .ensures, ← c .before .statement-of .ensures) (c .owed-after .ensures), rw (c .before .before .before .before .before .before .loop .inv .1 .1, first-step (rowBad (now (c .before .before .before .before .before .before .before .before .args .body)) (c .before .before .before .before .before .before .before .before .args .rows) (c .before .before .before .before .before .before .before .before .args .channels)) (c .before .before .before .before .before .before .before .before .args .rows) (c .before .before .before .before .before .before .loop .i) (search needs), ← c .before .before .before .before .before .before .loop .inv .1 .0, ← c .before .before .before .before .fields-of-row .ensures, ← c .before .before .before .row-good .ensures, c .before .before .if1 .taken)))
+loop-again c =
+    let a = c .before .before .before .before .before .before .before .before .args in
+    let l = c .before .before .before .before .before .before .loop in (
+      search needs,
+      (
+        rw (owed-step (now (a .body)) (l .i), ← l .inv .1 .0, ← c .before .before .before .before .fields-of-row .ensures, ← c .before .statement-of .ensures) (c .owed-after .ensures),
+        rw (
+          l .inv .1 .1,
+          first-step (rowBad (now (a .body)) (a .rows) (a .channels)) (a .rows) (l .i) (search needs),
+          ← l .inv .1 .0,
+          ← c .before .before .before .before .fields-of-row .ensures,
+          ← c .before .before .before .row-good .ensures,
+          c .before .before .if1 .taken,
+        ),
+      ),
+    )
 
 returns : tie.Need-returns Inv-loop μ-loop
 unfolding rowBad
-returns c = rw (c .before .before .before .before .loop .inv .1 .1, first-step (rowBad (now (c .before .before .before .before .before .before .args .body)) (c .before .before .before .before .before .before .args .rows) (c .before .before .before .before .before .before .args .channels)) (c .before .before .before .before .before .before .args .rows) (c .before .before .before .before .loop .i) (search needs), ← c .before .before .before .before .loop .inv .1 .0, ← c .before .before .fields-of-row .ensures, ← c .before .row-good .ensures, c .if1 .left)
+returns c =
+    let a = c .before .before .before .before .before .before .args in
+    let l = c .before .before .before .before .loop in
+    rw (
+      l .inv .1 .1,
+      first-step (rowBad (now (a .body)) (a .rows) (a .channels)) (a .rows) (l .i) (search needs),
+      ← l .inv .1 .0,
+      ← c .before .before .fields-of-row .ensures,
+      ← c .before .row-good .ensures,
+      c .if1 .left,
+    )
 
 returns-2 : tie.Need-returns-2 Inv-loop μ-loop
 unfolding firstOf
@@ -38,6 +63,7 @@ first-bad-row-spec =
     Inv-loop
     μ-loop
     loop-holds
+    (λ c. search needs)
     (λ c κs. search needs)
     (λ c κs. search needs)
     (λ c κs. search needs)

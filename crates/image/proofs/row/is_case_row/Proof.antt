@@ -13,4 +13,4 @@ unfolding isCaseRow
 returns-2 c = rw (← c .before .before .fields-of-row .ensures, lt-leb _ _ (c .if1 .left))
 
 pub is-case-row-spec : {M : Type 1} → statement M
-is-case-row-spec = tie.close (tie.spec (λ c κs. search needs) returns returns-2)
+is-case-row-spec = tie.close (tie.spec (λ c. search needs) (λ c κs. search needs) returns returns-2)

@@ -13,5 +13,4 @@ unfolding fieldsOfRow
 returns-2 c = rw (lt-leb _ _ (c .if1 .left))
 
 pub fields-of-row-spec : {M : Type 1} → statement M
-fields-of-row-spec =
-    tie.close (tie.spec (λ c. search needs) (λ c. search needs) (λ c. search needs) (λ c κs. search needs) returns returns-2)
+fields-of-row-spec = tie.close (tie.spec (λ c. search needs) (λ c. search needs) (λ c κs. search needs) returns returns-2)

@@ -1,6 +1,5 @@
 use Rattle.meaning.specs.Bytes.{rowsIn, statementOf}
 use mathlib.Core.Path.{ap, _∙_}
-use Rattle.meaning.specs.Bytes.{rowsIn}
 use borrow.Author.Needs.{needs}
 use Rattle.rows.proofs.table.statement_at.Statement.{statement}
 use Rattle.rows.proofs.table.statement_at.Tie as tie
