@@ -1,0 +1,1 @@
+// Laws of the machine: this crate has no code, only the theorems in specs/.

@@ -1,0 +1,7 @@
+-- From the job of a text that is not refused to its image: read back, passing the check, and giving the same turns.
+pub mod Proper
+pub mod Limits
+pub mod Laid
+pub mod ReadBack
+pub mod Passes
+pub mod Same
