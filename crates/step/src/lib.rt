@@ -1,0 +1,166 @@
+// One turn on the rows of an image, by value. The rules of document 01, 'Channel rules', answer plans; `state::apply` carries
+// a plan out. `body` is the image from row 0 on, `rows` the number of its rows. Whether the image is good and the state fits it
+// is asked above; here every value is answered.
+ghost use mathlib.Core.Path.{_≡_};
+ghost use Rattle.step.specs.Step.{repeated, asked, acted, refusedTurn, actedAt, turnedAs, stepped};
+
+mod closing;
+mod ops;
+mod plans;
+mod select;
+
+use closing::close_port;
+use meaning::Event;
+use meaning::Op;
+use meaning::Row;
+use meaning::Statement;
+use meaning::Status;
+use meaning::Task;
+use ops::do_op;
+use plans::branch;
+use plans::end;
+use rows::table::statement_at;
+use select::select;
+use state::Change;
+use state::Plan;
+use state::State;
+use state::TaskState;
+use state::Turned;
+use state::apply;
+use state::lap_of;
+use state::task_in;
+use state::with_lap;
+
+// A lap is begun while fewer than n are; otherwise the laps are forgotten.
+fn repeat(s: State, me: Task, x: TaskState, d: u8, n: u16, body: Row, after: Row) -> Plan
+    ensures { λ r. ⌜ r ≡ repeated s me x d n body after ⌝ }
+{
+    let lap = lap_of(x, d);
+    if (lap as u16) < n {
+        branch(
+            s,
+            me,
+            with_lap(x, d, std::num::wrapping_add_u8(lap, 1)),
+            body,
+        )
+    } else {
+        branch(s, me, with_lap(x, d, 0), after)
+    }
+}
+
+fn ifok(s: State, me: Task, x: TaskState, first: Row, second: Row) -> Plan
+    ensures { λ r. ⌜ r ≡ asked s me x first second ⌝ }
+{
+    if x.ok {
+        branch(s, me, x, first)
+    } else {
+        branch(s, me, x, second)
+    }
+}
+
+fn act(
+    body: &[u8],
+    rows: u16,
+    s: State,
+    values: [[u16; 16]; 16],
+    me: Task,
+    x: TaskState,
+    choice: u8,
+    statement: Statement,
+) -> Turned
+    ensures { λ r. ⌜ r ≡ acted (now (body .entry)) rows s values me x choice statement ⌝ }
+{
+    match statement {
+        Statement::Do(o, n) => apply(s, me, do_op(body, rows, s, values, me, x, o, n, n)),
+        Statement::Close(p, n) => close_port(body, s, me, x, p, n),
+        Statement::Range(p, n, a) => apply(
+            s,
+            me,
+            do_op(body, rows, s, values, me, x, Op::Recv(p), n, a),
+        ),
+        Statement::Repeat(d, k, n, a) => apply(s, me, repeat(s, me, x, d, k, n, a)),
+        Statement::Ifok(n, a) => apply(s, me, ifok(s, me, x, n, a)),
+        Statement::Select(k, e) => apply(s, me, select(body, rows, s, values, me, x, k, e, choice)),
+        Statement::Case(_, _) => apply(s, me, end(s, me, x)),
+        Statement::Stop => apply(s, me, end(s, me, x)),
+    }
+}
+
+fn refuse(s: State, number: u8) -> Turned
+    ensures { λ r. ⌜ r ≡ refusedTurn s number ⌝ }
+{
+    let event = Event::Refused(number);
+    let change = Change::Keep;
+    Turned {
+        event: event,
+        state: s,
+        change: change,
+    }
+}
+
+fn turn_as(
+    body: &[u8],
+    rows: u16,
+    s: State,
+    values: [[u16; 16]; 16],
+    me: Task,
+    x: TaskState,
+    choice: u8,
+    status: Status,
+) -> Turned
+    ensures { λ r. ⌜ r ≡ turnedAs (now (body .entry)) rows s values me x choice status ⌝ }
+{
+    match status {
+        Status::Able => act_at(body, rows, s, values, me, x, choice),
+        Status::Waiting => refuse(s, 15),
+        Status::Ended => refuse(s, 16),
+    }
+}
+
+fn act_at(
+    body: &[u8],
+    rows: u16,
+    s: State,
+    values: [[u16; 16]; 16],
+    me: Task,
+    x: TaskState,
+    choice: u8,
+) -> Turned
+    ensures { λ r. ⌜ r ≡ actedAt (now (body .entry)) rows s values me x choice ⌝ }
+{
+    let row = x.row;
+    act(
+        body,
+        rows,
+        s,
+        values,
+        me,
+        x,
+        choice,
+        statement_at(body, row.0 as u32),
+    )
+}
+
+// One turn of task t with a choice: the event, the state after it, and what it does to the values. A refused turn, by 13, 14,
+// 16 or 15, returns the state as it stood.
+pub fn step(
+    body: &[u8],
+    rows: u16,
+    s: State,
+    values: [[u16; 16]; 16],
+    t: Task,
+    choice: u8,
+) -> Turned
+    ensures { λ r. ⌜ r ≡ stepped (now (body .entry)) rows s values t choice ⌝ }
+{
+    if s.fault == 0 {
+        if t.0 < s.taskcount {
+            let tasks = s.tasks;
+            let x = task_in(tasks, t);
+            let status = x.status;
+            return turn_as(body, rows, s, values, t, x, choice, status);
+        }
+        return refuse(s, 14);
+    }
+    refuse(s, 13)
+}
