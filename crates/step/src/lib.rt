@@ -3,24 +3,18 @@
 // is asked above; here every value is answered.
 ghost use mathlib.Core.Path.{_≡_};
 ghost use Rattle.step.specs.Step.{repeated, asked, acted, refusedTurn, actedAt, turnedAs, stepped};
-
-mod closing;
-mod ops;
-mod plans;
-mod select;
-
-use closing::close_port;
 use meaning::Event;
 use meaning::Op;
 use meaning::Row;
 use meaning::Statement;
 use meaning::Status;
 use meaning::Task;
-use ops::do_op;
 use plans::branch;
 use plans::end;
 use rows::table::statement_at;
-use select::select;
+use rules::closing::close_port;
+use rules::ops::do_op;
+use rules::select::select;
 use state::Change;
 use state::Plan;
 use state::State;

@@ -1,0 +1,83 @@
+-- One step of each loop, and the clauses of a table that a count picks. Assumes nothing.
+use mathlib.Core.Path.{_≡_, refl}
+use mathlib.Core.Bool.{Bool, true, false}
+use mathlib.Core.List.{List, [], _∷_}
+use Prim.Native.Nat.{ℕ, zero, suc, _+_, _-_, _%_, _<_}
+use native.Mathlib.Numerals.{add-one}
+use native.Mathlib.Omega.{arith}
+use lib.ListN.{length, getD, take, drop, length-take}
+use lib.Seq.{drop-cons, getD-take}
+use Rattle.meaning.specs.declared.Task.{Task}
+use Rattle.meaning.specs.declared.Chan.{Chan}
+use Rattle.meaning.specs.declared.Row.{Row}
+use Rattle.meaning.specs.declared.Otherwise.{Otherwise}
+use Rattle.meaning.specs.declared.Port.the-variants.{On}
+use Rattle.meaning.specs.Numbers.{closeUnderSender}
+use Rattle.meaning.specs.Image.{rowNo}
+use Rattle.meaning.specs.Bytes.{rowsIn, listed}
+use Rattle.state.specs.declared.TaskState.{TaskState}
+use Rattle.state.specs.declared.ChanState.{ChanState}
+use Rattle.state.specs.declared.State.{State}
+use Rattle.state.specs.Cells.{keep}
+use Rattle.state.specs.State.{Values, applied}
+use Rattle.waiters.specs.declared.Side.the-variants.{Receiving}
+use Rattle.waiters.specs.Waiters.{caseOffer, waitsAt, one}
+use Rattle.rules.specs.Rules.{wokenAll, wokenBy, wokenTasks, closeOn, noCase, takeOffer, choose}
+use Rattle.plans.specs.Plans.{failPlan, shutPlan}
+
+-- CLOSE
+
+module _ (rs : List ℕ) (s : State) (me : Task) (x : TaskState) (c : Chan) (next : Row) (k : ChanState) where
+  pub close-some : (n w : ℕ) → (n ≡ 0 → ⊥) → closeOn rs s me x c next k false n w ≡ wokenAll rs s c (applied s me (shutPlan s me x c next k n))
+  close-some zero w h = absurd (h refl)
+  close-some (suc n) w h = refl
+
+  pub close-under : (w : ℕ) → (w ≡ 0 → ⊥) → closeOn rs s me x c next k false 0 w ≡ applied s me (failPlan s me x closeUnderSender (On c))
+  close-under zero h = absurd (h refl)
+  close-under (suc n) h = refl
+
+pub woken-step : (rs : List ℕ) (s : State) (c : Chan) (o : List Task) (n i : ℕ) (d : Task) (xs : List TaskState) → i < n → i < length o
+    → wokenTasks rs s c (drop i (take n o)) xs ≡ wokenTasks rs s c (drop (i + 1) (take n o)) (wokenBy rs s c (getD o i d) (waitsAt rs s Receiving c (getD o i d)) xs)
+unfolding wokenTasks
+woken-step rs s c o n i d xs h k =
+    let m : i < length (take n o) = simp length-take (omega arith) in
+    rw (drop-cons (take n o) i d m, getD-take n o i d h, add-one)
+
+-- SELECT
+
+listed-step : (k i n : ℕ) → i < k → listed (λ j. j) (k - i) (n + i) ≡ (n + i) ∷ listed (λ j. j) (k - (i + 1)) (n + (i + 1))
+unfolding listed
+listed-step k i n h =
+    let e : k - i ≡ suc (k - (i + 1)) = omega arith in
+    let j : n + (i + 1) ≡ suc (n + i) = omega arith in
+    rw (e, j)
+
+-- What is kept of the rows from row n + i on, with row n + i kept or not.
+module _ (p : ℕ → Bool) (k i n : ℕ) (h : i < k) where
+  pub kept-count : (b : Bool) → p (n + i) ≡ b → length (keep p (listed (λ j. j) (k - i) (n + i))) ≡ one b + length (keep p (listed (λ j. j) (k - (i + 1)) (n + (i + 1))))
+  kept-count true e = rw (listed-step k i n h, e) (omega arith)
+  kept-count false e = rw (listed-step k i n h, e) (omega arith)
+
+  pub kept-here : (j : ℕ) → p (n + i) ≡ true → j ≡ 0 → getD (keep p (listed (λ j. j) (k - i) (n + i))) j 0 ≡ n + i
+  kept-here j e z = rw (listed-step k i n h, e, z)
+
+  pub kept-next : (j : ℕ) → p (n + i) ≡ true → (j ≡ 0 → ⊥) → getD (keep p (listed (λ j. j) (k - i) (n + i))) j 0 ≡ getD (keep p (listed (λ j. j) (k - (i + 1)) (n + (i + 1)))) (j - 1) 0
+  kept-next zero e z = absurd (z refl)
+  kept-next (suc j) e z =
+      let q : suc j - 1 ≡ j = omega arith in
+      rw (listed-step k i n h, e, q)
+
+  pub kept-past : (j : ℕ) → p (n + i) ≡ false → getD (keep p (listed (λ j. j) (k - i) (n + i))) j 0 ≡ getD (keep p (listed (λ j. j) (k - (i + 1)) (n + (i + 1)))) j 0
+  kept-past j e = rw (listed-step k i n h, e)
+
+module _ (rs : List ℕ) (rows : ℕ) (s : State) (b : Values) (me : Task) (x : TaskState) (e : Otherwise) (choice : ℕ) where
+  pub choose-some : (ns : List ℕ) → (length ns ≡ 0 → ⊥) → choose rs rows s b me x ns e choice ≡ takeOffer rs rows s b me x (caseOffer (rowsIn rs (rowNo (getD ns (choice % length ns) 0))))
+  choose-some [] h = absurd (h refl)
+  choose-some (n ∷ ns) h = refl
+
+  pub choose-none : (ns : List ℕ) → length ns ≡ 0 → choose rs rows s b me x ns e choice ≡ noCase s me x e
+  choose-none [] h = refl
+  choose-none (n ∷ ns) h = absurd (omega arith)
+
+pub zero-plus : (n : ℕ) → n ≡ 0 + n
+zero-plus n = omega arith

@@ -1,0 +1,242 @@
+// Send and receive: each rule asks in document 01's order and answers a plan, to wait where nothing else is possible.
+ghost use mathlib.Core.Path.{_≡_};
+ghost use mathlib.Core.Bool.{true, false};
+ghost use Prim.Native.Nat.{_<_};
+ghost use lib.Dec.{ltb};
+ghost use Rattle.meaning.specs.Bytes.{capacityIn};
+ghost use Rattle.waiters.specs.declared.Found.the-variants.{Nobody};
+ghost use Rattle.rules.specs.Rules.{orWait, sendOn, sendsOn, sendTo, receiveOn, receivesOn, receiveFrom, attempt};
+use meaning::Chan;
+use meaning::Op;
+use meaning::Port;
+use meaning::Row;
+use meaning::Task;
+use plans::append;
+use plans::drain;
+use plans::fail;
+use plans::hand;
+use plans::receive;
+use plans::refill;
+use plans::take;
+use plans::wait;
+use rows::table::capacity_in;
+use state::ChanState;
+use state::Plan;
+use state::State;
+use state::TaskState;
+use state::chan_in;
+use state::values::oldest_in;
+use waiters::Found;
+use waiters::Side;
+use waiters::first_waiter;
+
+// Nobody waits to receive: into the buffer where there is room.
+fn send_in(
+    s: State,
+    me: Task,
+    x: TaskState,
+    c: Chan,
+    v: u16,
+    next: Row,
+    k: ChanState,
+    capacity: u8,
+) -> Plan
+    ensures { λ r. ⌜ r ≡ orWait s me x (sendOn s me x c v next k false Nobody (ltb (k .len) capacity)) ⌝ }
+{
+    if k.len < capacity {
+        append(s, me, x, c, v, next, k)
+    } else {
+        wait(s, me, x)
+    }
+}
+
+fn send_to_whom(
+    s: State,
+    me: Task,
+    x: TaskState,
+    c: Chan,
+    v: u16,
+    next: Row,
+    k: ChanState,
+    capacity: u8,
+    f: Found,
+) -> Plan
+    ensures { λ r. ⌜ r ≡ orWait s me x (sendOn s me x c v next k false f (ltb (k .len) capacity)) ⌝ }
+{
+    match f {
+        Found::Nobody => send_in(s, me, x, c, v, next, k, capacity),
+        Found::At(w, _, on, _) => hand(s, me, x, c, v, next, w, on),
+    }
+}
+
+fn send_on(
+    body: &[u8],
+    rows: u16,
+    s: State,
+    me: Task,
+    x: TaskState,
+    c: Chan,
+    v: u16,
+    next: Row,
+) -> Plan
+    ensures { λ r. ⌜ r ≡ orWait s me x (sendsOn (now (body .entry)) rows s me x c v next) ⌝ }
+{
+    let chans = s.chans;
+    let k = chan_in(chans, c);
+    if k.closed {
+        fail(s, me, x, 1, Port::On(c))
+    } else {
+        let capacity = capacity_in(body, rows, c.0 as u16);
+        send_to_whom(
+            s,
+            me,
+            x,
+            c,
+            v,
+            next,
+            k,
+            capacity,
+            first_waiter(body, s, Side::Receiving, c),
+        )
+    }
+}
+
+fn send_port(
+    body: &[u8],
+    rows: u16,
+    s: State,
+    me: Task,
+    x: TaskState,
+    p: Port,
+    v: u16,
+    next: Row,
+) -> Plan
+    ensures { λ r. ⌜ r ≡ orWait s me x (sendTo (now (body .entry)) rows s me x p v next) ⌝ }
+{
+    match p {
+        Port::Nil => wait(s, me, x),
+        Port::On(c) => send_on(body, rows, s, me, x, c, v, next),
+    }
+}
+
+// The buffer holds a value.
+fn receive_full(
+    s: State,
+    me: Task,
+    x: TaskState,
+    c: Chan,
+    hit: Row,
+    miss: Row,
+    v: u16,
+    k: ChanState,
+    f: Found,
+) -> Plan
+    requires { ⌜ 0 < k .len ⌝ }
+    ensures { λ r. ⌜ r ≡ orWait s me x (receiveOn s me x c hit miss v k true f (k .closed)) ⌝ }
+{
+    match f {
+        Found::Nobody => take(s, me, x, c, hit, v, k),
+        Found::At(w, o, on, _) => refill(s, me, x, c, hit, v, k, w, o, on),
+    }
+}
+
+fn receive_nothing(
+    s: State,
+    me: Task,
+    x: TaskState,
+    c: Chan,
+    hit: Row,
+    miss: Row,
+    v: u16,
+    k: ChanState,
+) -> Plan
+    ensures { λ r. ⌜ r ≡ orWait s me x (receiveOn s me x c hit miss v k false Nobody (k .closed)) ⌝ }
+{
+    if k.closed {
+        drain(s, me, x, c, miss)
+    } else {
+        wait(s, me, x)
+    }
+}
+
+// The buffer is empty.
+fn receive_empty(
+    s: State,
+    me: Task,
+    x: TaskState,
+    c: Chan,
+    hit: Row,
+    miss: Row,
+    v: u16,
+    k: ChanState,
+    f: Found,
+) -> Plan
+    ensures { λ r. ⌜ r ≡ orWait s me x (receiveOn s me x c hit miss v k false f (k .closed)) ⌝ }
+{
+    match f {
+        Found::Nobody => receive_nothing(s, me, x, c, hit, miss, v, k),
+        Found::At(w, o, on, _) => receive(s, me, x, c, hit, w, o, on),
+    }
+}
+
+fn receive_on(
+    body: &[u8],
+    s: State,
+    values: [[u16; 16]; 16],
+    me: Task,
+    x: TaskState,
+    c: Chan,
+    hit: Row,
+    miss: Row,
+) -> Plan
+    ensures { λ r. ⌜ r ≡ orWait s me x (receivesOn (now (body .entry)) s values me x c hit miss) ⌝ }
+{
+    let chans = s.chans;
+    let k = chan_in(chans, c);
+    let v = oldest_in(values, c);
+    let f = first_waiter(body, s, Side::Sending, c);
+    if 0 < k.len {
+        receive_full(s, me, x, c, hit, miss, v, k, f)
+    } else {
+        receive_empty(s, me, x, c, hit, miss, v, k, f)
+    }
+}
+
+fn receive_port(
+    body: &[u8],
+    s: State,
+    values: [[u16; 16]; 16],
+    me: Task,
+    x: TaskState,
+    p: Port,
+    hit: Row,
+    miss: Row,
+) -> Plan
+    ensures { λ r. ⌜ r ≡ orWait s me x (receiveFrom (now (body .entry)) s values me x p hit miss) ⌝ }
+{
+    match p {
+        Port::Nil => wait(s, me, x),
+        Port::On(c) => receive_on(body, s, values, me, x, c, hit, miss),
+    }
+}
+
+// One operation, which leads to `hit`, or to `miss` from a receive with ok off.
+pub fn do_op(
+    body: &[u8],
+    rows: u16,
+    s: State,
+    values: [[u16; 16]; 16],
+    me: Task,
+    x: TaskState,
+    o: Op,
+    hit: Row,
+    miss: Row,
+) -> Plan
+    ensures { λ r. ⌜ r ≡ orWait s me x (attempt (now (body .entry)) rows s values me x o hit miss) ⌝ }
+{
+    match o {
+        Op::Send(p, v) => send_port(body, rows, s, me, x, p, v, hit),
+        Op::Forward(p) => send_port(body, rows, s, me, x, p, x.register, hit),
+        Op::Recv(p) => receive_port(body, s, values, me, x, p, hit, miss),
+    }
+}
