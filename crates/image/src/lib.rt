@@ -3,7 +3,7 @@
 ghost use mathlib.Core.Path.{_≡_};
 ghost use Rattle.image.specs.Check.{rowBad, capacityBad, firstRowBad, firstOf, bodyChecked, countsGood, checked};
 
-mod row;
+pub mod row;
 
 use row::is_target;
 use row::owed_after;
