@@ -32,7 +32,7 @@ module _ {A : Type 0} where
   over-snoc (a ∷ b) [] x h = absurd (not-suc-le-zero h)
   over-snoc (a ∷ b) (y ∷ ys) x h = ap (λ (l : List A). a ∷ l) (over-snoc b ys x (le-of-suc-le-suc h))
 
-  over-snoc-at : (new old : List A) (x : A) (n : ℕ) → length new ≡ n → n < length old → set (over new old) n x ≡ over (new ++ (x ∷ [])) old
+  pub over-snoc-at : (new old : List A) (x : A) (n : ℕ) → length new ≡ n → n < length old → set (over new old) n x ≡ over (new ++ (x ∷ [])) old
   over-snoc-at new old x n e h = rw (← e) (over-snoc new old x (omega arith))
 
   consIf-append : (b : Bool) (y : A) (l m : List A) → consIf b y (l ++ m) ≡ consIf b y l ++ m

@@ -80,7 +80,7 @@ fn act(
     }
 }
 
-fn refuse(s: State, number: u8) -> Turned
+pub fn refuse(s: State, number: u8) -> Turned
     ensures { λ r. ⌜ r ≡ refusedTurn s number ⌝ }
 {
     let event = Event::Refused(number);

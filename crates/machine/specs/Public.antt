@@ -1,0 +1,64 @@
+-- What `start` and `turn` answer, record by record, with document 01's refusals in front.
+use mathlib.Core.Bool.{Bool, false, cond}
+use mathlib.Core.List.{List}
+use Prim.Native.Nat.{ℕ}
+use lib.ListN.{replicate}
+use Rattle.meaning.specs.declared.Task.{Task}
+use Rattle.meaning.specs.declared.Row.{Row}
+use Rattle.meaning.specs.declared.Status.the-variants.{Able}
+use Rattle.meaning.specs.Numbers.{depthLimit, noFault, unfit}
+use Rattle.meaning.specs.Image.{rowNo}
+use Rattle.meaning.specs.Bytes.{bodyOf, firstRowIn, listed}
+use Rattle.rows.specs.declared.Counts.{Counts}
+use Rattle.rows.specs.Rows.{countsOf}
+use Rattle.image.specs.declared.Checked.{Checked}
+use Rattle.image.specs.declared.Checked.the-variants.{Good, Refused}
+use Rattle.image.specs.Check.{checked}
+use Rattle.state.specs.declared.TaskState.{TaskState}
+use Rattle.state.specs.declared.ChanState.{ChanState}
+use Rattle.state.specs.declared.State.{State}
+use Rattle.state.specs.declared.Turned.{Turned}
+use Rattle.state.specs.Cells.{over}
+use Rattle.state.specs.State.{Values, noTasks, noValues}
+use Rattle.fit.specs.Fitting.{fitting}
+use Rattle.step.specs.Step.{refusedTurn, stepped}
+use Rattle.machine.specs.declared.Started.{Started}
+
+-- START
+
+abbrev pub freshTask : Row → TaskState
+freshTask r = record { status = Able; ok = false; register = 0; row = r; laps = replicate depthLimit 0 }
+
+abbrev pub unusedTasks : List TaskState
+unusedTasks = replicate 16 (freshTask (rowNo 0))
+
+abbrev pub openChans : List ChanState
+openChans = replicate 16 (record { closed = false; len = 0 })
+
+-- The records of the tasks at their first rows, the cells behind them unused.
+unfoldable pub freshTasks : List ℕ → Counts → List TaskState
+freshTasks rs k = over (listed (λ t. freshTask (firstRowIn rs (k .rows) (k .channels) t)) (k .tasks) 0) unusedTasks
+
+abbrev pub stateOf : List TaskState → ℕ → ℕ → State
+stateOf xs tasks channels = record { tasks = xs; chans = openChans; order = noTasks; waiting = 0; taskcount = tasks; chancount = channels; fault = noFault; named = record { 0 = 0 }; stamp = 0 }
+
+-- "A start from an image that fails returns that refusal and makes no machine": a state with no task, which fits no image.
+abbrev pub startedAs : List ℕ → Counts → Checked → Started
+startedAs rs k Good = record { answer = Good; state = stateOf (freshTasks rs k) (k .tasks) (k .channels) }
+startedAs rs k (Refused n i) = record { answer = Refused n i; state = stateOf unusedTasks 0 0 }
+
+unfoldable pub started : List ℕ → Started
+started bs = startedAs (bodyOf bs) (countsOf bs) (checked bs)
+
+-- All buffers empty.
+abbrev pub freshValues : Values
+freshValues = replicate 16 noValues
+
+-- TURN: "in this order: the image check's own number, 17 state doesn't fit the image, 13 .., 14 .., 16 .., 15 .."
+
+abbrev pub turnedAfter : List ℕ → Counts → State → Values → Task → ℕ → Checked → Turned
+turnedAfter rs k s b t choice Good = cond (fitting rs k s) (stepped rs (k .rows) s b t choice) (refusedTurn s unfit)
+turnedAfter rs k s b t choice (Refused n i) = refusedTurn s n
+
+unfoldable pub turned : List ℕ → State → Values → Task → ℕ → Turned
+turned bs s b t choice = turnedAfter (bodyOf bs) (countsOf bs) s b t choice (checked bs)
