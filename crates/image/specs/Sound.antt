@@ -6,7 +6,7 @@ use mathlib.Core.List.{List}
 use Prim.Native.Nat.{ℕ, zero, suc, _+_, _-_, _*_, _≤_, _<_}
 use native.Mathlib.Nat.{add-zero, zero-add}
 use native.Mathlib.Omega.{arith}
-use borrow.Author.Tests.{ltb-true, ltb-false, leb-true, eqb-true, lt-leb, not-true, not-false}
+use borrow.Author.Tests.{ltb-true, ltb-false, leb-true, eqb-true, lt-ltb, lt-leb, not-true, not-false}
 use lib.Dec.{eqb, leb, ltb}
 use lib.ListN.{length, drop, length-drop}
 use Rattle.meaning.specs.declared.Row.{Row}
@@ -121,16 +121,20 @@ case-is f (suc (suc (suc (suc (suc (suc (suc (suc (suc (suc (suc (suc zero))))))
 case-is f (suc (suc (suc (suc (suc (suc (suc (suc (suc (suc (suc (suc (suc n))))))))))))) = past (suc (suc (suc (suc (suc (suc (suc (suc (suc (suc (suc (suc (suc n))))))))))))) (omega arith)
 
 module _ (rs : List ℕ) where
-  case-row : (r : Row) → isCaseRow rs r ≡ isCase (rowsIn rs r)
+  pub case-row : (r : Row) → isCaseRow rs r ≡ isCase (rowsIn rs r)
   unfolding isCaseRow rowsIn
   case-row r = case-is (fieldsOfRow rs r) (fieldsOfRow rs r .op)
 
   module _ (rows : ℕ) where
-    target-is : (r : Row) → isTarget rs rows r ≡ true → Target rs rows r
+    pub target-is : (r : Row) → isTarget rs rows r ≡ true → Target rs rows r
     unfolding isTarget
     target-is r e =
         let h = both (ltb (r .0) rows) (not (isCaseRow rs r)) e in
         record { below = ltb-true _ _ (h .0); plain = sym (case-row r) ∙ not-true _ (h .1) }
+
+    pub is-target : (r : Row) → Target rs rows r → isTarget rs rows r ≡ true
+    unfolding isTarget
+    is-target r t = rw (lt-ltb _ _ (t .below), case-row r, t .plain)
 
     otherwise-is : (e : Otherwise) → otherwiseGood rs rows e ≡ true → OtherwiseSound rs rows e
     unfolding otherwiseGood

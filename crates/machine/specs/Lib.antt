@@ -1,3 +1,4 @@
 pub mod View
 pub mod Public
 pub mod Start
+pub mod Fitted

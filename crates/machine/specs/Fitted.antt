@@ -1,0 +1,288 @@
+-- The test of 17 and the fact that a state fits are one: each gives the other.
+use mathlib.Core.Path.{_≡_, refl, sym, ap, subst, _∙_}
+use mathlib.Core.Bool.{Bool, true, false, _&&_}
+use mathlib.Core.Option.{none, some}
+use mathlib.Core.List.{List, [], _∷_, map}
+use Prim.Native.Nat.{ℕ, zero, suc, _+_, _%_, _≤_, _<_}
+use native.Mathlib.Nat.{add-zero, zero-add, le-of-suc-le-suc, not-suc-le-zero}
+use native.Mathlib.Decide.{decLt}
+use native.Mathlib.Omega.{arith}
+use borrow.Author.Tests.{ltb-true, leb-true, eqb-true, lt-ltb, le-leb, eq-eqb, ne-eqb}
+use lib.Dec.{eqb, leb, ltb}
+use lib.ListN.{length, getD, take, length-take, length-map}
+use lib.Seq.{getD-take}
+use Rattle.meaning.specs.declared.Task.{Task}
+use Rattle.meaning.specs.declared.Row.{Row}
+use Rattle.meaning.specs.declared.Otherwise.{Otherwise}
+use Rattle.meaning.specs.declared.Otherwise.the-variants.{Wait, Go}
+use Rattle.meaning.specs.declared.Statement.{Statement}
+use Rattle.meaning.specs.declared.Statement.the-variants.{Do, Close, Range, Repeat, Ifok, Select, Case, Stop}
+use Rattle.meaning.specs.declared.Status.{Status}
+use Rattle.meaning.specs.declared.Status.the-variants.{Able, Waiting, Ended}
+use Rattle.meaning.specs.Machine.{Standing}
+use Rattle.meaning.specs.Image.{Rows, Spot, imageDefault, imageRepeat, imageStatement, imageLook}
+use Rattle.meaning.specs.Bytes.{rowCount, channelCount, taskCount, bodyOf, rowsIn, rowsOf, capacityIn, listed, capacitiesOf}
+use Rattle.rows.specs.Rows.{countsIn, countsOf}
+use Rattle.image.specs.Check.{isTarget}
+use Rattle.image.specs.Sound.{Sound, Target, target-is, is-target}
+use Rattle.laws.specs.Lists.{All}
+use Rattle.laws.specs.Points.{Standings}
+use Rattle.laws.specs.Fits.{one, times, mark, waitingAt, Within, CanWait, PlaceOf, Place, Fits}
+use Rattle.laws.specs.Closed.{OnRow}
+use Rattle.state.specs.declared.TaskState.{TaskState}
+use Rattle.state.specs.declared.ChanState.{ChanState}
+use Rattle.state.specs.declared.State.{State}
+use Rattle.state.specs.State.{Values, noTask, noChan, orderOf}
+use Rattle.fit.specs.Fitting.{every, taskNo, noDefault, canWait, placeFits, taskFits, lengthFits, nameFits, fitting}
+use Rattle.machine.specs.View.{standingOf, channelsOf, viewIn, view, Arrays, Fit}
+
+-- TESTS OVER NUMBERS
+
+both : (a b : Bool) → (a && b) ≡ true → (a ≡ true) × (b ≡ true)
+both true b e = (refl, e)
+both false b e = (e, cc)
+
+clash : false ≡ true → ⊥
+clash e = let z : _≡_ {A = ℕ} 0 1 = cc in omega (arith, z)
+
+join : (a b : Bool) → a ≡ true → b ≡ true → (a && b) ≡ true
+join a b p q = rw (p, q)
+
+every-all : (p : ℕ → Bool) (n i : ℕ) → every p n i ≡ true → (j : ℕ) → j < n → p (i + j) ≡ true
+unfolding every
+every-all p zero i e j h = absurd (not-suc-le-zero h)
+every-all p (suc n) i e zero h = ap p (add-zero i) ∙ both (p i) (every p n (suc i)) e .0
+every-all p (suc n) i e (suc j) h =
+    let z : i + suc j ≡ suc i + j = omega arith in
+    ap p z ∙ every-all p n (suc i) (both (p i) (every p n (suc i)) e .1) j (le-of-suc-le-suc h)
+
+all-every : (p : ℕ → Bool) (n i : ℕ) → ((j : ℕ) → j < n → p (i + j) ≡ true) → every p n i ≡ true
+unfolding every
+all-every p zero i f = refl
+all-every p (suc n) i f =
+    join (p i) (every p n (suc i)) (ap p (sym (add-zero i)) ∙ f zero (omega arith))
+    (all-every p n (suc i) (λ j h. (let z : suc i + j ≡ i + suc j = omega arith in ap p z ∙ f (suc j) (omega arith))))
+
+passes : (p : ℕ → Bool) (n : ℕ) → every p n 0 ≡ true → (j : ℕ) → j < n → p j ≡ true
+passes p n e j h = ap p (sym (zero-add j)) ∙ every-all p n 0 e j h
+
+pass : (p : ℕ → Bool) (n : ℕ) → ((j : ℕ) → j < n → p j ≡ true) → every p n 0 ≡ true
+pass p n f = all-every p n 0 (λ j h. ap p (zero-add j) ∙ f j h)
+
+-- LISTS BY NUMBER
+
+module _ {A : Type 0} (Q : A → Type 0) (d : A) where
+  all-by : (l : List A) → ((i : ℕ) → i < length l → Q (getD l i d)) → All Q l
+  all-by [] f = tt
+  all-by (x ∷ xs) f = (f zero (omega arith), all-by xs (λ i h. f (suc i) (omega arith)))
+
+  by-all : (l : List A) → All Q l → (i : ℕ) → i < length l → Q (getD l i d)
+  by-all [] h i k = absurd (not-suc-le-zero k)
+  by-all (x ∷ xs) h zero k = h .0
+  by-all (x ∷ xs) h (suc i) k = by-all xs (h .1) i (le-of-suc-le-suc k)
+
+getD-map : {A B : Type 0} (f : A → B) (l : List A) (i : ℕ) (d : A) → getD (map f l) i (f d) ≡ f (getD l i d)
+getD-map f [] i d = refl
+getD-map f (x ∷ xs) zero d = refl
+getD-map f (x ∷ xs) (suc i) d = getD-map f xs i d
+
+getD-listed : {A : Type 0} (f : ℕ → A) (n i k : ℕ) (d : A) → k < n → getD (listed f n i) k d ≡ f (i + k)
+unfolding listed
+getD-listed f zero i k d h = absurd (not-suc-le-zero h)
+getD-listed f (suc n) i zero d h = ap f (sym (add-zero i))
+getD-listed f (suc n) i (suc k) d h =
+    let z : suc i + k ≡ i + suc k = omega arith in
+    getD-listed f n (suc i) k d (le-of-suc-le-suc h) ∙ ap f z
+
+length-listed : {A : Type 0} (f : ℕ → A) (n i : ℕ) → length (listed f n i) ≡ n
+unfolding listed
+length-listed f zero i = refl
+length-listed f (suc n) i = ap suc (length-listed f n (suc i))
+
+-- THE ORDER
+
+waiting-in : (xs : List (Standing Spot)) (d : Standing Spot) (n : ℕ) → n < length xs → waitingAt xs n ≡ mark (getD xs n d .status)
+unfolding waitingAt
+waiting-in [] d n h = absurd (not-suc-le-zero h)
+waiting-in (x ∷ xs) d zero h = refl
+waiting-in (x ∷ xs) d (suc n) h = waiting-in xs d n (le-of-suc-le-suc h)
+
+waiting-out : (xs : List (Standing Spot)) (n : ℕ) → length xs ≤ n → waitingAt xs n ≡ 0
+unfolding waitingAt
+waiting-out [] n h = refl
+waiting-out (x ∷ xs) zero h = absurd (not-suc-le-zero h)
+waiting-out (x ∷ xs) (suc n) h = waiting-out xs n (le-of-suc-le-suc h)
+
+times-none : (t : Task) (o : List Task) (n : ℕ) → n ≤ t .0 → ((i : ℕ) → i < length o → getD o i (taskNo 0) .0 < n) → times t o ≡ 0
+unfolding times
+times-none t [] n h f = refl
+times-none t (u ∷ us) n h f =
+    let z : u .0 < n = f zero (omega arith) in
+    rw (ne-eqb (t .0) (u .0) (λ e. omega arith)) (omega (arith, times-none t us n h (λ i k. f (suc i) (omega arith))))
+
+times-some : (o : List Task) (i : ℕ) → i < length o → 1 ≤ times (getD o i (taskNo 0)) o
+unfolding times
+times-some [] i h = absurd (not-suc-le-zero h)
+times-some (u ∷ us) zero h = rw (eq-eqb (u .0) (u .0) refl) (omega arith)
+times-some (u ∷ us) (suc i) h = omega (arith, times-some us i (le-of-suc-le-suc h))
+
+-- AN OPERATION THAT CAN WAIT
+
+module _ (rows : Rows) (laps : List ℕ) (i : ℕ) where
+  can-wait : (s : Statement) → canWait s ≡ true → CanWait (imageStatement rows laps i s)
+  unfolding imageStatement imageDefault
+  can-wait (Do o n) e = record { cases = _; only = refl }
+  can-wait (Close p n) e = absurd (clash e)
+  can-wait (Range p n a) e = record { cases = _; only = refl }
+  can-wait (Repeat d k n a) e = absurd (clash e)
+  can-wait (Ifok n a) e = absurd (clash e)
+  can-wait (Select k Wait) e = record { cases = _; only = refl }
+  can-wait (Select k (Go n)) e = absurd (clash e)
+  can-wait (Case o n) e = absurd (clash e)
+  can-wait Stop e = absurd (clash e)
+
+  waits-can : (s : Statement) → CanWait (imageStatement rows laps i s) → canWait s ≡ true
+  unfolding imageStatement imageDefault imageRepeat
+  waits-can (Do o n) w = refl
+  waits-can (Close p n) w = (let z = w .only in cc)
+  waits-can (Range p n a) w = refl
+  waits-can (Repeat d k n a) w = (let z = w .only in cc)
+  waits-can (Ifok n a) w = (let z = w .only in cc)
+  waits-can (Select k Wait) w = refl
+  waits-can (Select k (Go n)) w = (let z = w .only in cc)
+  waits-can (Case o n) w = (let z = w .only in cc)
+  waits-can Stop w = (let z = w .only in cc)
+
+-- THE CHANNELS
+
+within-by : (caps : List ℕ) (ks : List ChanState) (b : Values) → ((c : ℕ) → c < length caps → getD ks c noChan .len ≤ getD caps c 0) → All Within (channelsOf caps ks b)
+within-by [] ks b f = tt
+within-by (n ∷ ns) [] b f = tt
+within-by (n ∷ ns) (k ∷ ks) [] f = tt
+within-by (n ∷ ns) (k ∷ ks) (r ∷ rs) f = (omega (arith, length-take (k .len) r, f zero (omega arith)), within-by ns ks rs (λ c h. f (suc c) (omega arith)))
+
+-- BOTH WAYS
+
+module _ (bs : List ℕ) (sound : Sound bs) (s : State) (b : Values) (a : Arrays s b) where
+  abbrev taskNow : ℕ → TaskState
+  taskNow i = getD (s .tasks) i noTask
+
+  abbrev seenTasks : List (Standing Spot)
+  seenTasks = map standingOf (take (s .taskcount) (s .tasks))
+
+  seen-length : s .taskcount ≤ 16 → length seenTasks ≡ s .taskcount
+  seen-length h = simp (length-map, length-take) (omega (arith, a .tasks16))
+
+  seen-task : (i : ℕ) → i < s .taskcount → getD seenTasks i (standingOf noTask) ≡ standingOf (taskNow i)
+  seen-task i h = getD-map standingOf (take (s .taskcount) (s .tasks)) i noTask ∙ ap standingOf (getD-take (s .taskcount) (s .tasks) i noTask h)
+
+  abbrev rs : List ℕ
+  rs = bodyOf bs
+
+  abbrev atRow : TaskState → Statement
+  atRow x = rowsIn rs (x .row)
+
+  place-is : (st : Status) (x : TaskState) → placeFits st (atRow x) ≡ true → PlaceOf st (imageLook (rowsOf bs) (standingOf x .point))
+  unfolding imageLook rowsOf
+  place-is Able x e = tt
+  place-is Waiting x e = can-wait (rowsIn rs) (x .laps) (x .row .0) (atRow x) e
+  place-is Ended x e = tt
+
+  is-place : (st : Status) (x : TaskState) → PlaceOf st (imageLook (rowsOf bs) (standingOf x .point)) → placeFits st (atRow x) ≡ true
+  unfolding imageLook rowsOf
+  is-place Able x w = refl
+  is-place Waiting x w = waits-can (rowsIn rs) (x .laps) (x .row .0) (atRow x) w
+  is-place Ended x w = refl
+
+  -- What the tests ask of task i, as facts.
+  pub record TaskFit (i : ℕ) : Type 0 where
+    pub row : Target rs (rowCount bs) (taskNow i .row)
+    pub once : times (taskNo i) (orderOf s) ≡ mark (taskNow i .status)
+    pub place : PlaceOf (taskNow i .status) (imageLook (rowsOf bs) (standingOf (taskNow i) .point))
+
+  task-is : (i : ℕ) → i < 16 → taskFits rs (countsOf bs) s i ≡ true → TaskFit i
+  unfolding taskFits countsOf countsIn rowCount
+  task-is i h e =
+      let small : i % 16 ≡ i = omega arith in
+      let x = taskNow i in
+      let f = rw small at e in
+      let p = both (isTarget rs (rowCount bs) (x .row)) _ f in
+      let q = both (eqb (times (taskNo i) (orderOf s)) (mark (x .status))) (placeFits (x .status) (atRow x)) (p .1) in
+      record { row = target-is rs (rowCount bs) (x .row) (p .0); once = eqb-true _ _ (q .0); place = place-is (x .status) x (q .1) }
+
+  is-task : (i : ℕ) → i < 16 → TaskFit i → taskFits rs (countsOf bs) s i ≡ true
+  unfolding taskFits countsOf countsIn rowCount
+  is-task i h t =
+      let small : i % 16 ≡ i = omega arith in
+      let x = taskNow i in
+      rw small
+      (join (isTarget rs (rowCount bs) (x .row)) _ (is-target rs (rowCount bs) (x .row) (t .row))
+      (join (eqb (times (taskNo i) (orderOf s)) (mark (x .status))) (placeFits (x .status) (atRow x)) (eq-eqb _ _ (t .once)) (is-place (x .status) x (t .place))))
+
+  -- The whole test, taken apart.
+  pub record Tests : Type 0 where
+    pub taskcount : s .taskcount ≡ taskCount bs
+    pub chancount : s .chancount ≡ channelCount bs
+    pub fault : s .fault ≤ 4
+    pub waiting : s .waiting ≤ 16
+    pub names : (i : ℕ) → i < s .waiting → getD (s .order) i (taskNo 0) .0 < taskCount bs
+    pub lengths : (c : ℕ) → c < channelCount bs → getD (s .chans) c noChan .len ≤ capacityIn rs (rowCount bs) c
+    pub tasks : (i : ℕ) → i < taskCount bs → TaskFit i
+
+  name-is : (i : ℕ) → i < 16 → nameFits (countsOf bs) s i ≡ true → getD (s .order) i (taskNo 0) .0 < taskCount bs
+  unfolding nameFits countsOf countsIn taskCount
+  name-is i h e =
+      let small : i % 16 ≡ i = omega arith in
+      ltb-true _ _ (rw small at e)
+
+  is-name : (i : ℕ) → i < 16 → getD (s .order) i (taskNo 0) .0 < taskCount bs → nameFits (countsOf bs) s i ≡ true
+  unfolding nameFits countsOf countsIn taskCount
+  is-name i h l =
+      let small : i % 16 ≡ i = omega arith in
+      rw small (lt-ltb _ _ l)
+
+  length-is : (c : ℕ) → c < 16 → lengthFits rs (countsOf bs) s c ≡ true → getD (s .chans) c noChan .len ≤ capacityIn rs (rowCount bs) c
+  unfolding lengthFits countsOf countsIn rowCount
+  length-is c h e =
+      let small : c % 16 ≡ c = omega arith in
+      leb-true _ _ (rw small at e)
+
+  is-length : (c : ℕ) → c < 16 → getD (s .chans) c noChan .len ≤ capacityIn rs (rowCount bs) c → lengthFits rs (countsOf bs) s c ≡ true
+  unfolding lengthFits countsOf countsIn rowCount
+  is-length c h l =
+      let small : c % 16 ≡ c = omega arith in
+      rw small (le-leb _ _ l)
+
+  tests-are : fitting rs (countsOf bs) s ≡ true → Tests
+  unfolding fitting countsOf countsIn taskCount channelCount
+  tests-are e =
+      let k = countsOf bs in
+      let e1 = both (eqb (s .taskcount) (k .tasks)) _ e in
+      let e2 = both (eqb (s .chancount) (k .channels)) _ (e1 .1) in
+      let e3 = both (leb (s .fault) 4) _ (e2 .1) in
+      let e4 = both (leb (s .waiting) 16) _ (e3 .1) in
+      let e5 = both (every (nameFits k s) (s .waiting) 0) _ (e4 .1) in
+      let e6 = both (every (lengthFits rs k s) (k .channels) 0) (every (taskFits rs k s) (k .tasks) 0) (e5 .1) in
+      let w : s .waiting ≤ 16 = leb-true _ _ (e4 .0) in
+      record {
+        taskcount = eqb-true _ _ (e1 .0);
+        chancount = eqb-true _ _ (e2 .0);
+        fault = leb-true _ _ (e3 .0);
+        waiting = w;
+        names = λ i h. name-is i (omega arith) (passes (nameFits k s) (s .waiting) (e5 .0) i h);
+        lengths = λ c h. length-is c (omega (arith, sound .most-channels)) (passes (lengthFits rs k s) (k .channels) (e6 .0) c h);
+        tasks = λ i h. task-is i (omega (arith, sound .most-tasks)) (passes (taskFits rs k s) (k .tasks) (e6 .1) i h);
+      }
+
+  are-tests : Tests → fitting rs (countsOf bs) s ≡ true
+  unfolding fitting countsOf countsIn taskCount channelCount
+  are-tests t =
+      let k = countsOf bs in
+      join (eqb (s .taskcount) (k .tasks)) _ (eq-eqb _ _ (t .taskcount))
+      (join (eqb (s .chancount) (k .channels)) _ (eq-eqb _ _ (t .chancount))
+      (join (leb (s .fault) 4) _ (le-leb _ _ (t .fault))
+      (join (leb (s .waiting) 16) _ (le-leb _ _ (t .waiting))
+      (join (every (nameFits k s) (s .waiting) 0) _ (pass (nameFits k s) (s .waiting) (λ i h. is-name i (omega (arith, t .waiting)) (t .names i h)))
+      (join (every (lengthFits rs k s) (k .channels) 0) (every (taskFits rs k s) (k .tasks) 0)
+      (pass (lengthFits rs k s) (k .channels) (λ c h. is-length c (omega (arith, sound .most-channels)) (t .lengths c h)))
+      (pass (taskFits rs k s) (k .tasks) (λ i h. is-task i (omega (arith, sound .most-tasks)) (t .tasks i h))))))))
