@@ -286,3 +286,79 @@ module _ (bs : List ℕ) (sound : Sound bs) (s : State) (b : Values) (a : Arrays
       (join (every (lengthFits rs k s) (k .channels) 0) (every (taskFits rs k s) (k .tasks) 0)
       (pass (lengthFits rs k s) (k .channels) (λ c h. is-length c (omega (arith, sound .most-channels)) (t .lengths c h)))
       (pass (taskFits rs k s) (k .tasks) (λ i h. is-task i (omega (arith, sound .most-tasks)) (t .tasks i h))))))))
+
+  few : s .taskcount ≡ taskCount bs → s .taskcount ≤ 16
+  few e = omega (arith, e, sound .most-tasks)
+
+  order-length : s .waiting ≤ 16 → length (orderOf s) ≡ s .waiting
+  order-length h = simp length-take (omega (arith, a .order16))
+
+  order-at : s .waiting ≤ 16 → (i : ℕ) → i < s .waiting → getD (orderOf s) i (taskNo 0) ≡ getD (s .order) i (taskNo 0)
+  order-at h i k = getD-take (s .waiting % 17) (s .order) i (taskNo 0) (omega arith)
+
+  capacity-at : (c : ℕ) → c < channelCount bs → getD (capacitiesOf bs) c 0 ≡ capacityIn rs (rowCount bs) c
+  unfolding capacitiesOf
+  capacity-at c h = getD-listed (capacityIn rs (rowCount bs)) (channelCount bs) 0 c 0 h ∙ ap (capacityIn rs (rowCount bs)) (zero-add c)
+
+  capacities-length : length (capacitiesOf bs) ≡ channelCount bs
+  unfolding capacitiesOf
+  capacities-length = length-listed (capacityIn rs (rowCount bs)) (channelCount bs) 0
+
+  marked : s .taskcount ≤ 16 → (n : ℕ) → n < s .taskcount → waitingAt seenTasks n ≡ mark (taskNow n .status)
+  marked h n k = waiting-in seenTasks (standingOf noTask) n (omega (arith, seen-length h)) ∙ ap (λ x. mark (x .status)) (seen-task n k)
+
+  fit-of : Tests → Fit bs s b
+  unfolding viewIn
+  fit-of t =
+      let n16 = few (t .taskcount) in
+      let len = seen-length n16 in
+      record {
+        taskcount = t .taskcount;
+        chancount = t .chancount;
+        waiting = t .waiting;
+        lengths = t .lengths;
+        rows = all-by (λ x. OnRow bs (x .point)) (standingOf noTask) seenTasks (λ i h. subst (λ x. OnRow bs (x .point)) (sym (seen-task i (omega arith))) (t .tasks i (omega (arith, t .taskcount)) .row));
+        fits = record {
+          ordered = λ u. elim (decLt (u .0) (s .taskcount)) [
+            | yes h ↦ t .tasks (u .0) (omega (arith, t .taskcount)) .once ∙ sym (marked n16 (u .0) h)
+            | no d ↦ times-none u (orderOf s) (s .taskcount) (omega (arith, d)) (λ i k. subst (λ v. v .0 < s .taskcount) (sym (order-at (t .waiting) i (omega (arith, order-length (t .waiting))))) (omega (arith, t .taskcount, t .names i (omega (arith, order-length (t .waiting))))))
+                ∙ sym (waiting-out seenTasks (u .0) (omega (arith, d, len)))
+          ];
+          places = all-by (Place (imageLook (rowsOf bs))) (standingOf noTask) seenTasks (λ i h. subst (Place (imageLook (rowsOf bs))) (sym (seen-task i (omega arith))) (t .tasks i (omega (arith, t .taskcount)) .place));
+          within = within-by (capacitiesOf bs) (s .chans) b (λ c h. omega (arith, capacity-at c (omega (arith, capacities-length)), t .lengths c (omega (arith, capacities-length))));
+          faults = t .fault;
+        };
+      }
+
+  tests-of : Fit bs s b → Tests
+  unfolding viewIn
+  tests-of f =
+      let n16 = few (f .taskcount) in
+      let len = seen-length n16 in
+      record {
+        taskcount = f .taskcount;
+        chancount = f .chancount;
+        fault = f .fits .faults;
+        waiting = f .waiting;
+        names = λ i h. elim (decLt (getD (s .order) i (taskNo 0) .0) (taskCount bs)) [
+          | yes k ↦ k
+          | no d ↦ absurd (
+              let some = subst (λ v. 1 ≤ times v (orderOf s)) (order-at (f .waiting) i h) (times-some (orderOf s) i (omega (arith, order-length (f .waiting)))) in
+              let zero = waiting-out seenTasks (getD (s .order) i (taskNo 0) .0) (omega (arith, d, len, f .taskcount)) in
+              omega (arith, some, zero, f .fits .ordered (getD (s .order) i (taskNo 0)))
+              )
+        ];
+        lengths = f .lengths;
+        tasks = λ i h. record {
+          row = subst (λ x. OnRow bs (x .point)) (seen-task i (omega (arith, f .taskcount))) (by-all (λ x. OnRow bs (x .point)) (standingOf noTask) seenTasks (f .rows) i (omega (arith, len, f .taskcount)));
+          once = f .fits .ordered (taskNo i) ∙ marked n16 i (omega (arith, f .taskcount));
+          place = subst (Place (imageLook (rowsOf bs))) (seen-task i (omega (arith, f .taskcount))) (by-all (Place (imageLook (rowsOf bs))) (standingOf noTask) seenTasks (f .fits .places) i (omega (arith, len, f .taskcount)));
+        };
+      }
+
+  -- THE LAW
+  pub fitting-fit : fitting rs (countsOf bs) s ≡ true → Fit bs s b
+  fitting-fit e = fit-of (tests-are e)
+
+  pub fit-fitting : Fit bs s b → fitting rs (countsOf bs) s ≡ true
+  fit-fitting f = are-tests (tests-of f)

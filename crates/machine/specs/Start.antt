@@ -34,7 +34,7 @@ map-listed g f (suc n) i = ap (λ l. g (f i) ∷ l) (map-listed g f n (suc i))
 
 -- Channels that are all open and empty.
 open-channels : (caps : List ℕ) (n : ℕ) (cells : List ℕ) → length caps ≤ n
-              → channelsOf caps (replicate n (record { closed = false; len = 0 })) (replicate n cells) ≡ map (λ c. record { capacity = c; closed = false; buffer = [] }) caps
+    → channelsOf caps (replicate n (record { closed = false; len = 0 })) (replicate n cells) ≡ map (λ c. record { capacity = c; closed = false; buffer = [] }) caps
 open-channels [] n cells h = refl
 open-channels (c ∷ cs) zero cells h = absurd (omega arith)
 open-channels (c ∷ cs) (suc n) cells h = ap (λ l. record { capacity = c; closed = false; buffer = [] } ∷ l) (open-channels cs n cells (le-of-suc-le-suc h))

@@ -9,7 +9,6 @@ ghost use Rattle.rows.specs.Rows.{countsOf};
 ghost use Rattle.machine.specs.View.{view};
 ghost use Rattle.machine.specs.Public.{freshTask, freshTasks, stateOf, startedAs, started, freshValues};
 ghost use Rattle.state.specs.State.{changed};
-
 use image::Checked;
 use image::check;
 use meaning::Row;
@@ -36,7 +35,13 @@ fn fresh_task(row: Row) -> TaskState
 {
     let laps = [0u8; 6];
     let status = Status::Able;
-    TaskState { status: status, ok: false, register: 0, row: row, laps: laps }
+    TaskState {
+        status: status,
+        ok: false,
+        register: 0,
+        row: row,
+        laps: laps,
+    }
 }
 
 // The tasks at their first rows.
@@ -59,7 +64,10 @@ fn fresh_tasks(body: &[u8], k: Counts) -> [TaskState; 16]
 fn state_of(tasks: [TaskState; 16], taskcount: u8, chancount: u8) -> State
     ensures { λ r. ⌜ r ≡ stateOf tasks taskcount chancount ⌝ }
 {
-    let chans = [ChanState { closed: false, len: 0 }; 16];
+    let chans = [ChanState {
+        closed: false,
+        len: 0,
+    }; 16];
     let order = [Task(0); 16];
     let named = Task(0);
     State {
@@ -83,12 +91,18 @@ fn start_as(body: &[u8], k: Counts, answer: Checked) -> Started
         Checked::Good => {
             let state = state_of(fresh_tasks(body, k), k.tasks, k.channels);
             let good = Checked::Good;
-            Started { answer: good, state: state }
+            Started {
+                answer: good,
+                state: state,
+            }
         }
         Checked::Refused(n, i) => {
             let state = state_of([fresh_task(Row(0)); 16], 0, 0);
             let refused = Checked::Refused(n, i);
-            Started { answer: refused, state: state }
+            Started {
+                answer: refused,
+                state: state,
+            }
         }
     }
 }

@@ -64,7 +64,7 @@ loop-less c = search needs
 
 -- src/lib.rt:50:5
 loop-again : tie.Need-loop-again Inv-loop μ-loop
-loop-again c = 
+loop-again c =
     let a = c .before .before .before .before .before .before .args in
     let l = c .before .before .before .loop in
     (search needs, (l .inv .1 .0, rw (l .inv .1 .1, c .fresh-task2 .ensures, c .before .first-row-in .ensures) (fill-lap (λ j. freshTask (firstRowIn (now (a .body)) (a .k .rows) (a .k .channels) j)) unusedTasks (l .t) (omega arith))))
@@ -72,7 +72,7 @@ loop-again c =
 -- src/lib.rt:43:1
 returns : tie.Need-returns Inv-loop μ-loop
 unfolding freshTasks
-returns c = 
+returns c =
     let a = c .before .before .before .before .args in
     let l = c .before .loop in
     let e : l .t ≡ a .k .tasks = omega arith in

@@ -46,7 +46,7 @@ start-as-requires c κs = λ g.
 -- src/lib.rt:95:1
 returns : tie.Need-returns
 unfolding started countsOf
-returns c = 
+returns c =
     let bs = now (c .before .before .before .before .before .before .args .image) in
     let e : c .start-as .result ≡ started bs = rw (← c .before .before .before .before .check .ensures, ← c .before .before .trailer-of .ensures, ← c .before .counts-in .ensures, ← c .before .before .before .body-of .ensures) (c .start-as .ensures) in
     (e, started-means bs (c .start-as .result) e)
