@@ -34,6 +34,7 @@ use Rattle.state.specs.declared.ChanState.{ChanState}
 use Rattle.state.specs.declared.State.{State}
 use Rattle.state.specs.State.{Values, noTask, noChan, orderOf}
 use Rattle.fit.specs.Fitting.{every, taskNo, noDefault, canWait, placeFits, taskFits, lengthFits, nameFits, fitting}
+use Rattle.machine.specs.Capacities.{capacity-count, capacity-at}
 use Rattle.machine.specs.View.{standingOf, channelsOf, viewIn, view, Arrays, Fit}
 
 -- TESTS OVER NUMBERS
@@ -85,19 +86,6 @@ getD-map : {A B : Type 0} (f : A → B) (l : List A) (i : ℕ) (d : A) → getD 
 getD-map f [] i d = refl
 getD-map f (x ∷ xs) zero d = refl
 getD-map f (x ∷ xs) (suc i) d = getD-map f xs i d
-
-getD-listed : {A : Type 0} (f : ℕ → A) (n i k : ℕ) (d : A) → k < n → getD (listed f n i) k d ≡ f (i + k)
-unfolding listed
-getD-listed f zero i k d h = absurd (not-suc-le-zero h)
-getD-listed f (suc n) i zero d h = ap f (sym (add-zero i))
-getD-listed f (suc n) i (suc k) d h =
-    let z : suc i + k ≡ i + suc k = omega arith in
-    getD-listed f n (suc i) k d (le-of-suc-le-suc h) ∙ ap f z
-
-length-listed : {A : Type 0} (f : ℕ → A) (n i : ℕ) → length (listed f n i) ≡ n
-unfolding listed
-length-listed f zero i = refl
-length-listed f (suc n) i = ap suc (length-listed f n (suc i))
 
 -- THE ORDER
 
@@ -296,14 +284,6 @@ module _ (bs : List ℕ) (sound : Sound bs) (s : State) (b : Values) (a : Arrays
   order-at : s .waiting ≤ 16 → (i : ℕ) → i < s .waiting → getD (orderOf s) i (taskNo 0) ≡ getD (s .order) i (taskNo 0)
   order-at h i k = getD-take (s .waiting % 17) (s .order) i (taskNo 0) (omega arith)
 
-  capacity-at : (c : ℕ) → c < channelCount bs → getD (capacitiesOf bs) c 0 ≡ capacityIn rs (rowCount bs) c
-  unfolding capacitiesOf
-  capacity-at c h = getD-listed (capacityIn rs (rowCount bs)) (channelCount bs) 0 c 0 h ∙ ap (capacityIn rs (rowCount bs)) (zero-add c)
-
-  capacities-length : length (capacitiesOf bs) ≡ channelCount bs
-  unfolding capacitiesOf
-  capacities-length = length-listed (capacityIn rs (rowCount bs)) (channelCount bs) 0
-
   marked : s .taskcount ≤ 16 → (n : ℕ) → n < s .taskcount → waitingAt seenTasks n ≡ mark (taskNow n .status)
   marked h n k = waiting-in seenTasks (standingOf noTask) n (omega (arith, seen-length h)) ∙ ap (λ x. mark (x .status)) (seen-task n k)
 
@@ -325,7 +305,7 @@ module _ (bs : List ℕ) (sound : Sound bs) (s : State) (b : Values) (a : Arrays
                 ∙ sym (waiting-out seenTasks (u .0) (omega (arith, d, len)))
           ];
           places = all-by (Place (imageLook (rowsOf bs))) (standingOf noTask) seenTasks (λ i h. subst (Place (imageLook (rowsOf bs))) (sym (seen-task i (omega arith))) (t .tasks i (omega (arith, t .taskcount)) .place));
-          within = within-by (capacitiesOf bs) (s .chans) b (λ c h. omega (arith, capacity-at c (omega (arith, capacities-length)), t .lengths c (omega (arith, capacities-length))));
+          within = within-by (capacitiesOf bs) (s .chans) b (λ c h. omega (arith, capacity-at bs c (omega (arith, capacity-count bs)), t .lengths c (omega (arith, capacity-count bs))));
           faults = t .fault;
         };
       }

@@ -1,4 +1,10 @@
 pub mod View
 pub mod Public
+pub mod Capacities
+pub mod Leaves
+pub mod Who
+pub mod Link
+pub mod Stays
+pub mod Told
 pub mod Start
 pub mod Fitted

@@ -18,14 +18,10 @@ use Rattle.image.specs.Sound.{Sound, good-sound}
 use Rattle.state.specs.declared.TaskState.{TaskState}
 use Rattle.state.specs.Cells.{over, take-over}
 use Rattle.state.specs.State.{noValues}
+use Rattle.machine.specs.Capacities.{length-listed, capacity-count}
 use Rattle.machine.specs.View.{standingOf, channelsOf, viewIn, view}
 use Rattle.machine.specs.declared.Started.{Started}
 use Rattle.machine.specs.Public.{freshTask, unusedTasks, freshTasks, stateOf, startedAs, started, freshValues}
-
-length-listed : {A : Type 0} (f : ℕ → A) (n i : ℕ) → length (listed f n i) ≡ n
-unfolding listed
-length-listed f zero i = refl
-length-listed f (suc n) i = ap suc (length-listed f n (suc i))
 
 map-listed : {A B : Type 0} (g : A → B) (f : ℕ → A) (n i : ℕ) → map g (listed f n i) ≡ listed (λ j. g (f j)) n i
 unfolding listed
@@ -50,8 +46,7 @@ module _ (bs : List ℕ) where
       ∙ sym (ap (λ l. map (λ p. record { status = Able; register = 0; ok = false; point = p }) l) (map-listed (spot (replicate depthLimit 0)) (firstRowIn (bodyOf bs) (rowCount bs) (channelCount bs)) n 0) ∙ map-listed _ _ n 0)
 
   few-capacities : Sound bs → length (capacitiesOf bs) ≤ 16
-  unfolding capacitiesOf
-  few-capacities sound = omega (arith, length-listed (capacityIn (bodyOf bs) (rowCount bs)) (channelCount bs) 0, sound .most-channels)
+  few-capacities sound = omega (arith, capacity-count bs, sound .most-channels)
 
   pub fresh-view : Sound bs → view bs (stateOf (freshTasks (bodyOf bs) (countsOf bs)) (taskCount bs) (channelCount bs)) freshValues ≡ startOf bs
   unfolding viewIn startOf imageStart fresh freshTasks countsOf countsIn rowCount channelCount taskCount firstRowsOf
