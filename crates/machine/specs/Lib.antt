@@ -8,3 +8,4 @@ pub mod Stays
 pub mod Told
 pub mod Start
 pub mod Fitted
+pub mod Meant

@@ -1,5 +1,6 @@
 -- What `start` and `turn` answer, record by record, with document 01's refusals in front.
-use mathlib.Core.Bool.{Bool, false, cond}
+use mathlib.Core.Path.{_≡_}
+use mathlib.Core.Bool.{true, false, cond}
 use mathlib.Core.List.{List}
 use Prim.Native.Nat.{ℕ}
 use lib.ListN.{replicate}
@@ -7,8 +8,9 @@ use Rattle.meaning.specs.declared.Task.{Task}
 use Rattle.meaning.specs.declared.Row.{Row}
 use Rattle.meaning.specs.declared.Status.the-variants.{Able}
 use Rattle.meaning.specs.Numbers.{depthLimit, noFault, unfit}
-use Rattle.meaning.specs.Image.{rowNo}
-use Rattle.meaning.specs.Bytes.{bodyOf, firstRowIn, listed}
+use Rattle.meaning.specs.Machine as m
+use Rattle.meaning.specs.Image.{rowNo, imageLook}
+use Rattle.meaning.specs.Bytes.{bodyOf, firstRowIn, listed, rowsOf}
 use Rattle.rows.specs.declared.Counts.{Counts}
 use Rattle.rows.specs.Rows.{countsOf}
 use Rattle.image.specs.declared.Checked.{Checked}
@@ -22,6 +24,7 @@ use Rattle.state.specs.Cells.{over}
 use Rattle.state.specs.State.{Values, noTasks, noValues}
 use Rattle.fit.specs.Fitting.{fitting}
 use Rattle.step.specs.Step.{refusedTurn, stepped}
+use Rattle.machine.specs.View.{view, turnedOf}
 use Rattle.machine.specs.declared.Started.{Started}
 
 -- START
@@ -62,3 +65,9 @@ turnedAfter rs k s b t choice (Refused n i) = refusedTurn s n
 
 unfoldable pub turned : List ℕ → State → Values → Task → ℕ → Turned
 turned bs s b t choice = turnedAfter (bodyOf bs) (countsOf bs) s b t choice (checked bs)
+
+-- WHAT A TURN MEANS, on an image that passes the check, for a state that fits it: the event and the machine seen in the state and
+-- values after it are those of the meaning's turn on the machine seen before it, and the state fits again.
+pub record Means (bs : List ℕ) (s : State) (b : Values) (t : Task) (choice : ℕ) (r : Turned) : Type 0 where
+  pub same : turnedOf bs b r ≡ m.turn (imageLook (rowsOf bs)) t choice (view bs s b)
+  pub fits-again : fitting (bodyOf bs) (countsOf bs) (r .state) ≡ true

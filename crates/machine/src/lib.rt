@@ -1,14 +1,17 @@
 // The machine as its callers see it: a start from an image, one turn, and the values after it. All answer every image and every
 // state; what they promise is said over the meaning of the image.
 ghost use mathlib.Core.Path.{_≡_};
+ghost use mathlib.Core.Bool.{true};
 ghost use Prim.Native.Nat.{_≤_};
 ghost use Rattle.image.specs.declared.Checked.the-variants.{Good};
 ghost use Rattle.image.specs.Check.{checked};
-ghost use Rattle.meaning.specs.Bytes.{startOf};
+ghost use Rattle.fit.specs.Fitting.{fitting};
+ghost use Rattle.meaning.specs.Bytes.{bodyOf, startOf};
 ghost use Rattle.rows.specs.Rows.{countsOf};
 ghost use Rattle.machine.specs.View.{view};
-ghost use Rattle.machine.specs.Public.{freshTask, freshTasks, stateOf, startedAs, started, freshValues};
+ghost use Rattle.machine.specs.Public.{freshTask, freshTasks, stateOf, startedAs, started, freshValues, turnedAfter, turned, Means};
 ghost use Rattle.state.specs.State.{changed};
+use fit::fits;
 use image::Checked;
 use image::check;
 use meaning::Row;
@@ -23,6 +26,9 @@ use state::ChanState;
 use state::Change;
 use state::State;
 use state::TaskState;
+use state::Turned;
+use step::refuse;
+use step::step;
 
 // A start's answer: the check's, and the fresh state; a state with no task where the image is refused.
 pub struct Started {
@@ -127,4 +133,45 @@ pub fn stored(values: [[u16; 16]; 16], change: Change) -> [[u16; 16]; 16]
     ensures { λ r. ⌜ r ≡ changed values change ⌝ }
 {
     state::values::stored(values, change)
+}
+
+// The turn once the image's own answer is known.
+fn turn_after(
+    body: &[u8],
+    k: Counts,
+    s: State,
+    values: [[u16; 16]; 16],
+    task: Task,
+    choice: u8,
+    answer: Checked,
+) -> Turned
+    ensures { λ r. ⌜ r ≡ turnedAfter (now (body .entry)) k s values task choice answer ⌝ }
+{
+    match answer {
+        Checked::Good => {
+            if fits(body, k, s) {
+                step(body, k.rows, s, values, task, choice)
+            } else {
+                refuse(s, 17)
+            }
+        }
+        Checked::Refused(n, _) => refuse(s, n),
+    }
+}
+
+// One turn of a task with a choice: the event, the state after it, and what it does to the values. Refused by the image check's
+// own number, 17, 13, 14, 16 or 15, in this order, it returns the state as it stood.
+pub fn turn(image: &[u8], s: State, values: [[u16; 16]; 16], task: Task, choice: u8) -> Turned
+    ensures { λ r. ⌜ (r ≡ turned (now (image .entry)) s values task choice) × (checked (now (image .entry)) ≡ Good → fitting (bodyOf (now (image .entry))) (countsOf (now (image .entry))) s ≡ true → Means (now (image .entry)) s values task choice r) ⌝ }
+{
+    let answer = check(image);
+    turn_after(
+        body_of(image),
+        counts_in(trailer_of(image)),
+        s,
+        values,
+        task,
+        choice,
+        answer,
+    )
 }
