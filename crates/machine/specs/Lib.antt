@@ -9,3 +9,4 @@ pub mod Told
 pub mod Start
 pub mod Fitted
 pub mod Meant
+pub mod Reached
