@@ -1,0 +1,2 @@
+pub mod Channels
+pub mod Contents

@@ -1,0 +1,87 @@
+// What append and take do to a channel record, by value.
+ghost use mathlib.Core.Path.{_≡_};
+ghost use Prim.Native.Nat.{_≤_};
+ghost use Rattle.state.specs.State.{shifted};
+ghost use Rattle.lent.specs.Channels.{appendedTo, tookFrom};
+use crate::Added;
+use crate::Channel;
+use crate::Taken;
+use crate::Took;
+
+pub fn add_to(c: Channel, v: u16) -> Added
+    ensures { λ r. ⌜ r ≡ appendedTo c v ⌝ }
+{
+    let capacity = c.capacity;
+    let len = c.len;
+    if 16 < capacity {
+        return Added {
+            ok: false,
+            channel: c,
+        };
+    }
+    if capacity <= len {
+        return Added {
+            ok: false,
+            channel: c,
+        };
+    }
+    let mut after = c;
+    let i = len as usize;
+    after.values[i] = v;
+    after.len = len + 1;
+    Added {
+        ok: true,
+        channel: after,
+    }
+}
+
+// The first len values of a row without the oldest, the cells behind them 0.
+fn shift(row: [u16; 16], len: u8) -> [u16; 16]
+    requires { ⌜ len ≤ 16 ⌝ }
+    ensures { λ r. ⌜ r ≡ shifted row len ⌝ }
+{
+    let n = len as usize;
+    let mut rest = [0u16; 16];
+    let mut i = 0;
+    while i + 1 < n {
+        rest[i] = row[i + 1];
+        i = i + 1;
+    }
+    rest
+}
+
+pub fn take_from(c: Channel) -> Took
+    ensures { λ r. ⌜ r ≡ tookFrom c ⌝ }
+{
+    let capacity = c.capacity;
+    let len = c.len;
+    let no = Taken::No;
+    if 16 < capacity {
+        return Took {
+            taken: no,
+            channel: c,
+        };
+    }
+    if capacity < len {
+        return Took {
+            taken: no,
+            channel: c,
+        };
+    }
+    if len < 1 {
+        return Took {
+            taken: no,
+            channel: c,
+        };
+    }
+    let row = c.values;
+    let oldest = Taken::Value(row[0]);
+    let rest = shift(row, len);
+    let mut after = c;
+    after.values = rest;
+    after.len = len - 1;
+    Took {
+        taken: oldest,
+        channel: after,
+    }
+}
