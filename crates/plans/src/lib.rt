@@ -21,7 +21,6 @@ use state::joining;
 use state::quiet;
 use state::stood;
 use state::storing;
-use state::task_in;
 use state::waking;
 use state::went;
 
@@ -53,8 +52,8 @@ pub fn end(s: State, me: Task, x: TaskState) -> Plan
 pub fn hand(s: State, me: Task, x: TaskState, c: Chan, v: u16, next: Row, w: Task, on: Row) -> Plan
     ensures { λ r. ⌜ r ≡ handPlan s me x c v next w on ⌝ }
 {
-    let tasks = s.tasks;
-    let y = got(task_in(tasks, w), v, true, on);
+    let at = (w.0 % 16) as usize;
+    let y = got(s.tasks[at], v, true, on);
     waking(quiet(s, me, went(x, next), Event::Handed(c, v, w)), w, y)
 }
 
@@ -116,8 +115,8 @@ pub fn refill(
 ) -> Plan
     ensures { λ r. ⌜ r ≡ refillPlan s me x c hit v k w o on ⌝ }
 {
-    let tasks = s.tasks;
-    let y = task_in(tasks, w);
+    let at = (w.0 % 16) as usize;
+    let y = s.tasks[at];
     let sent = payload_of(o, y.register);
     let taken = quiet(s, me, got(x, v, true, hit), Event::Refilled(c, v, w));
     waking(
@@ -131,8 +130,8 @@ pub fn refill(
 pub fn receive(s: State, me: Task, x: TaskState, c: Chan, hit: Row, w: Task, o: Op, on: Row) -> Plan
     ensures { λ r. ⌜ r ≡ receivePlan s me x c hit w o on ⌝ }
 {
-    let tasks = s.tasks;
-    let y = task_in(tasks, w);
+    let at = (w.0 % 16) as usize;
+    let y = s.tasks[at];
     let sent = payload_of(o, y.register);
     waking(
         quiet(s, me, got(x, sent, true, hit), Event::Received(c, sent, w)),

@@ -16,7 +16,6 @@ use state::State;
 use state::TaskState;
 use state::Turned;
 use state::apply;
-use state::chan_in;
 use state::got;
 use waiters::Offer;
 use waiters::Side;
@@ -105,8 +104,8 @@ fn close_open(
 fn close_on(body: &[u8], s: State, me: Task, x: TaskState, c: Chan, next: Row) -> Turned
     ensures { λ r. ⌜ r ≡ closesOn (now (body .entry)) s me x c next ⌝ }
 {
-    let chans = s.chans;
-    let k = chan_in(chans, c);
+    let at = (c.0 % 16) as usize;
+    let k = s.chans[at];
     if k.closed {
         apply(s, me, fail(s, me, x, 3, Port::On(c)))
     } else {

@@ -24,7 +24,6 @@ use state::ChanState;
 use state::Plan;
 use state::State;
 use state::TaskState;
-use state::chan_in;
 use state::values::oldest_in;
 use waiters::Found;
 use waiters::Side;
@@ -81,8 +80,8 @@ fn send_on(
 ) -> Plan
     ensures { λ r. ⌜ r ≡ orWait s me x (sendsOn (now (body .entry)) rows s me x c v next) ⌝ }
 {
-    let chans = s.chans;
-    let k = chan_in(chans, c);
+    let at = (c.0 % 16) as usize;
+    let k = s.chans[at];
     if k.closed {
         fail(s, me, x, 1, Port::On(c))
     } else {
@@ -182,17 +181,17 @@ fn receive_empty(
 fn receive_on(
     body: &[u8],
     s: State,
-    values: [[u16; 16]; 16],
+    values: &[[u16; 16]; 16],
     me: Task,
     x: TaskState,
     c: Chan,
     hit: Row,
     miss: Row,
 ) -> Plan
-    ensures { λ r. ⌜ r ≡ orWait s me x (receivesOn (now (body .entry)) s values me x c hit miss) ⌝ }
+    ensures { λ r. ⌜ r ≡ orWait s me x (receivesOn (now (body .entry)) s (now (values .entry)) me x c hit miss) ⌝ }
 {
-    let chans = s.chans;
-    let k = chan_in(chans, c);
+    let at = (c.0 % 16) as usize;
+    let k = s.chans[at];
     let v = oldest_in(values, c);
     let f = first_waiter(body, s, Side::Sending, c);
     if 0 < k.len {
@@ -205,14 +204,14 @@ fn receive_on(
 fn receive_port(
     body: &[u8],
     s: State,
-    values: [[u16; 16]; 16],
+    values: &[[u16; 16]; 16],
     me: Task,
     x: TaskState,
     p: Port,
     hit: Row,
     miss: Row,
 ) -> Plan
-    ensures { λ r. ⌜ r ≡ orWait s me x (receiveFrom (now (body .entry)) s values me x p hit miss) ⌝ }
+    ensures { λ r. ⌜ r ≡ orWait s me x (receiveFrom (now (body .entry)) s (now (values .entry)) me x p hit miss) ⌝ }
 {
     match p {
         Port::Nil => wait(s, me, x),
@@ -225,14 +224,14 @@ pub fn do_op(
     body: &[u8],
     rows: u16,
     s: State,
-    values: [[u16; 16]; 16],
+    values: &[[u16; 16]; 16],
     me: Task,
     x: TaskState,
     o: Op,
     hit: Row,
     miss: Row,
 ) -> Plan
-    ensures { λ r. ⌜ r ≡ orWait s me x (attempt (now (body .entry)) rows s values me x o hit miss) ⌝ }
+    ensures { λ r. ⌜ r ≡ orWait s me x (attempt (now (body .entry)) rows s (now (values .entry)) me x o hit miss) ⌝ }
 {
     match o {
         Op::Send(p, v) => send_port(body, rows, s, me, x, p, v, hit),

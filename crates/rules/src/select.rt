@@ -22,7 +22,6 @@ use rows::table::statement_at;
 use state::Plan;
 use state::State;
 use state::TaskState;
-use state::chan_in;
 use waiters::Found;
 use waiters::Offer;
 use waiters::Side;
@@ -50,8 +49,8 @@ fn can_get(f: Found, closed: bool) -> bool
 fn can_send_on(body: &[u8], rows: u16, s: State, c: Chan) -> bool
     ensures { λ r. ⌜ r ≡ canSend (chanIn (s .chans) c .closed) (firstWaiter (now (body .entry)) s Receiving c) (hasRoom (now (body .entry)) rows s c) ⌝ }
 {
-    let chans = s.chans;
-    let k = chan_in(chans, c);
+    let at = (c.0 % 16) as usize;
+    let k = s.chans[at];
     if k.closed {
         true
     } else {
@@ -72,8 +71,8 @@ fn can_send(body: &[u8], rows: u16, s: State, p: Port) -> bool
 fn can_receive_on(body: &[u8], s: State, c: Chan) -> bool
     ensures { λ r. ⌜ r ≡ canReceive (ltb 0 (chanIn (s .chans) c .len)) (firstWaiter (now (body .entry)) s Sending c) (chanIn (s .chans) c .closed) ⌝ }
 {
-    let chans = s.chans;
-    let k = chan_in(chans, c);
+    let at = (c.0 % 16) as usize;
+    let k = s.chans[at];
     if 0 < k.len {
         true
     } else {
@@ -156,12 +155,12 @@ fn take_offer(
     body: &[u8],
     rows: u16,
     s: State,
-    values: [[u16; 16]; 16],
+    values: &[[u16; 16]; 16],
     me: Task,
     x: TaskState,
     f: Offer,
 ) -> Plan
-    ensures { λ r. ⌜ r ≡ takeOffer (now (body .entry)) rows s values me x f ⌝ }
+    ensures { λ r. ⌜ r ≡ takeOffer (now (body .entry)) rows s (now (values .entry)) me x f ⌝ }
 {
     match f {
         Offer::Nothing => wait(s, me, x),
@@ -182,14 +181,14 @@ pub fn select(
     body: &[u8],
     rows: u16,
     s: State,
-    values: [[u16; 16]; 16],
+    values: &[[u16; 16]; 16],
     me: Task,
     x: TaskState,
     k: u8,
     e: Otherwise,
     choice: u8,
 ) -> Plan
-    ensures { λ r. ⌜ r ≡ selected (now (body .entry)) rows s values me x k e choice ⌝ }
+    ensures { λ r. ⌜ r ≡ selected (now (body .entry)) rows s (now (values .entry)) me x k e choice ⌝ }
 {
     let row = x.row;
     let n = count_ready(body, rows, s, k, row);

@@ -7,8 +7,8 @@ use crate::Change;
 use meaning::Chan;
 
 // The value that a receive would take.
-pub fn oldest_in(values: [[u16; 16]; 16], c: Chan) -> u16
-    ensures { λ r. ⌜ r ≡ oldest values c ⌝ }
+pub fn oldest_in(values: &[[u16; 16]; 16], c: Chan) -> u16
+    ensures { λ r. ⌜ r ≡ oldest (now (values .entry)) c ⌝ }
 {
     let i = (c.0 % 16) as usize;
     values[i][0]

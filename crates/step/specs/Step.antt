@@ -34,6 +34,15 @@ module _ (s : State) (me : Task) (x : TaskState) where
 abbrev pub refusedTurn : State → ℕ → Turned
 refusedTurn s n = record { event = Refused n; state = s; change = Keep }
 
+-- The number by which a turn is refused ahead of its statement, or 0: "13 machine halted, 14 no such task, 16 ended, 15 waiting".
+abbrev pub refusalOf : Status → ℕ
+refusalOf Able = 0
+refusalOf Waiting = isWaiting
+refusalOf Ended = hasEnded
+
+unfoldable pub refusedBy : State → Task → ℕ
+refusedBy s t = cond (eqb (s .fault) noFault) (cond (ltb (t .0) (s .taskcount)) (refusalOf (taskIn (s .tasks) t .status)) noSuchTask) halted
+
 module _ (rs : List ℕ) (rows : ℕ) (s : State) (b : Values) where
   abbrev pub acted : Task → TaskState → ℕ → Statement → Turned
   acted me x choice (Do o n) = applied s me (orWait s me x (attempt rs rows s b me x o n n))
@@ -53,7 +62,6 @@ module _ (rs : List ℕ) (rows : ℕ) (s : State) (b : Values) where
   turnedAs me x choice Waiting = refusedTurn s isWaiting
   turnedAs me x choice Ended = refusedTurn s hasEnded
 
-  -- "13 machine halted, 14 no such task, 16 ended, 15 waiting"
   unfoldable pub stepped : Task → ℕ → Turned
   stepped t choice =
       cond (eqb (s .fault) noFault)

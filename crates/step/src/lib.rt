@@ -2,7 +2,7 @@
 // a plan out. `body` is the image from row 0 on, `rows` the number of its rows. Whether the image is good and the state fits it
 // is asked above; here every value is answered.
 ghost use mathlib.Core.Path.{_≡_};
-ghost use Rattle.step.specs.Step.{repeated, asked, acted, refusedTurn, actedAt, turnedAs, stepped};
+ghost use Rattle.step.specs.Step.{repeated, asked, refusalOf, refusedBy, refusedTurn, stepped};
 use meaning::Event;
 use meaning::Op;
 use meaning::Row;
@@ -22,7 +22,6 @@ use state::TaskState;
 use state::Turned;
 use state::apply;
 use state::lap_of;
-use state::task_in;
 use state::with_lap;
 
 // A lap is begun while fewer than n are; otherwise the laps are forgotten.
@@ -52,31 +51,13 @@ fn ifok(s: State, me: Task, x: TaskState, first: Row, second: Row) -> Plan
     }
 }
 
-fn act(
-    body: &[u8],
-    rows: u16,
-    s: State,
-    values: [[u16; 16]; 16],
-    me: Task,
-    x: TaskState,
-    choice: u8,
-    statement: Statement,
-) -> Turned
-    ensures { λ r. ⌜ r ≡ acted (now (body .entry)) rows s values me x choice statement ⌝ }
+fn refusal_of(status: Status) -> u8
+    ensures { λ r. ⌜ r ≡ refusalOf status ⌝ }
 {
-    match statement {
-        Statement::Do(o, n) => apply(s, me, do_op(body, rows, s, values, me, x, o, n, n)),
-        Statement::Close(p, n) => close_port(body, s, me, x, p, n),
-        Statement::Range(p, n, a) => apply(
-            s,
-            me,
-            do_op(body, rows, s, values, me, x, Op::Recv(p), n, a),
-        ),
-        Statement::Repeat(d, k, n, a) => apply(s, me, repeat(s, me, x, d, k, n, a)),
-        Statement::Ifok(n, a) => apply(s, me, ifok(s, me, x, n, a)),
-        Statement::Select(k, e) => apply(s, me, select(body, rows, s, values, me, x, k, e, choice)),
-        Statement::Case(_, _) => apply(s, me, end(s, me, x)),
-        Statement::Stop => apply(s, me, end(s, me, x)),
+    match status {
+        Status::Able => 0,
+        Status::Waiting => 15,
+        Status::Ended => 16,
     }
 }
 
@@ -92,47 +73,20 @@ pub fn refuse(s: State, number: u8) -> Turned
     }
 }
 
-fn turn_as(
-    body: &[u8],
-    rows: u16,
-    s: State,
-    values: [[u16; 16]; 16],
-    me: Task,
-    x: TaskState,
-    choice: u8,
-    status: Status,
-) -> Turned
-    ensures { λ r. ⌜ r ≡ turnedAs (now (body .entry)) rows s values me x choice status ⌝ }
+// The number by which a turn of task t is refused, 13, 14, 16 or 15, or 0.
+fn refused_by(s: State, t: Task) -> u8
+    ensures { λ r. ⌜ r ≡ refusedBy s t ⌝ }
 {
-    match status {
-        Status::Able => act_at(body, rows, s, values, me, x, choice),
-        Status::Waiting => refuse(s, 15),
-        Status::Ended => refuse(s, 16),
+    if s.fault == 0 {
+        if t.0 < s.taskcount {
+            let at = (t.0 % 16) as usize;
+            let x = s.tasks[at];
+            let status = x.status;
+            return refusal_of(status);
+        }
+        return 14;
     }
-}
-
-fn act_at(
-    body: &[u8],
-    rows: u16,
-    s: State,
-    values: [[u16; 16]; 16],
-    me: Task,
-    x: TaskState,
-    choice: u8,
-) -> Turned
-    ensures { λ r. ⌜ r ≡ actedAt (now (body .entry)) rows s values me x choice ⌝ }
-{
-    let row = x.row;
-    act(
-        body,
-        rows,
-        s,
-        values,
-        me,
-        x,
-        choice,
-        statement_at(body, row.0 as u32),
-    )
+    13
 }
 
 // One turn of task t with a choice: the event, the state after it, and what it does to the values. A refused turn, by 13, 14,
@@ -147,14 +101,25 @@ pub fn step(
 ) -> Turned
     ensures { λ r. ⌜ r ≡ stepped (now (body .entry)) rows s values t choice ⌝ }
 {
-    if s.fault == 0 {
-        if t.0 < s.taskcount {
-            let tasks = s.tasks;
-            let x = task_in(tasks, t);
-            let status = x.status;
-            return turn_as(body, rows, s, values, t, x, choice, status);
-        }
-        return refuse(s, 14);
+    let number = refused_by(s, t);
+    if number != 0 {
+        return refuse(s, number);
     }
-    refuse(s, 13)
+    let at = (t.0 % 16) as usize;
+    let x = s.tasks[at];
+    let statement = statement_at(body, x.row.0 as u32);
+    match statement {
+        Statement::Do(o, n) => apply(s, t, do_op(body, rows, s, &values, t, x, o, n, n)),
+        Statement::Close(p, n) => close_port(body, s, t, x, p, n),
+        Statement::Range(p, n, a) => apply(
+            s,
+            t,
+            do_op(body, rows, s, &values, t, x, Op::Recv(p), n, a),
+        ),
+        Statement::Repeat(d, k, n, a) => apply(s, t, repeat(s, t, x, d, k, n, a)),
+        Statement::Ifok(n, a) => apply(s, t, ifok(s, t, x, n, a)),
+        Statement::Select(k, e) => apply(s, t, select(body, rows, s, &values, t, x, k, e, choice)),
+        Statement::Case(_, _) => apply(s, t, end(s, t, x)),
+        Statement::Stop => apply(s, t, end(s, t, x)),
+    }
 }

@@ -5,4 +5,12 @@ use Rattle.plans.proofs.hand.Tie as tie
 pub hand-spec : {M : Type 1} → statement M
 hand-spec =
     tie.close
-    (tie.spec (λ c κs. search needs) (λ c κs. search needs) (λ c κs. search needs) (λ c κs. search needs) (λ c κs. search needs) (λ c. rw (c .waking .ensures, c .before .quiet .ensures, c .before .before .went .ensures, c .before .before .before .got .ensures, c .before .before .before .before .task-in .ensures)))
+    (tie.spec
+    (λ c. search needs)
+    (λ c. search needs)
+    (λ c. search needs)
+    (λ c κs. search needs)
+    (λ c κs. search needs)
+    (λ c κs. search needs)
+    (λ c κs. search needs)
+    (λ c. rw (c .waking .ensures, c .before .quiet .ensures, c .before .before .went .ensures, c .before .before .before .got .ensures)))

@@ -6,10 +6,12 @@ pub receive-spec : {M : Type 1} → statement M
 receive-spec =
     tie.close
     (tie.spec
+    (λ c. search needs)
+    (λ c. search needs)
+    (λ c. search needs)
     (λ c κs. search needs)
     (λ c κs. search needs)
     (λ c κs. search needs)
     (λ c κs. search needs)
     (λ c κs. search needs)
-    (λ c κs. search needs)
-    (λ c. rw (c .waking .ensures, c .before .went .ensures, c .before .before .quiet .ensures, c .before .before .before .got .ensures, c .before .before .before .before .payload-of .ensures, c .before .before .before .before .before .task-in .ensures)))
+    (λ c. rw (c .waking .ensures, c .before .went .ensures, c .before .before .quiet .ensures, c .before .before .before .got .ensures, c .before .before .before .before .payload-of .ensures)))

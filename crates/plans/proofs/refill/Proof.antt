@@ -6,11 +6,13 @@ pub refill-spec : {M : Type 1} → statement M
 refill-spec =
     tie.close
     (tie.spec
+    (λ c. search needs)
+    (λ c. search needs)
+    (λ c. search needs)
     (λ c κs. search needs)
     (λ c κs. search needs)
     (λ c κs. search needs)
     (λ c κs. search needs)
     (λ c κs. search needs)
     (λ c κs. search needs)
-    (λ c κs. search needs)
-    (λ c. rw (c .waking .ensures, c .before .went .ensures, c .before .before .storing .ensures, c .before .before .before .quiet .ensures, c .before .before .before .before .got .ensures, c .before .before .before .before .before .payload-of .ensures, c .before .before .before .before .before .before .task-in .ensures)))
+    (λ c. rw (c .waking .ensures, c .before .went .ensures, c .before .before .storing .ensures, c .before .before .before .quiet .ensures, c .before .before .before .before .got .ensures, c .before .before .before .before .before .payload-of .ensures)))

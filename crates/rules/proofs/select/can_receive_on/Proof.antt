@@ -5,4 +5,12 @@ use Rattle.rules.proofs.select.can_receive_on.Tie as tie
 
 pub can-receive-on-spec : {M : Type 1} → statement M
 can-receive-on-spec =
-    tie.close (tie.spec (λ c κs. search needs) (λ c κs. search needs) (λ c κs. search needs) (λ c. rw (← c .before .before .chan-in .ensures, lt-ltb _ _ (c .if1 .taken))) (λ c. rw (c .can-get .ensures, c .before .first-waiter .ensures, ← c .before .before .before .before .chan-in .ensures, le-ltb _ _ (c .before .before .if1 .left))))
+    tie.close
+    (tie.spec
+    (λ c. search needs)
+    (λ c. search needs)
+    (λ c. search needs)
+    (λ c κs. search needs)
+    (λ c κs. search needs)
+    (λ c. rw (lt-ltb _ _ (c .if1 .taken)))
+    (λ c. rw (c .can-get .ensures, c .before .first-waiter .ensures, le-ltb _ _ (c .before .before .if1 .left))))
