@@ -76,7 +76,7 @@ module _ {P : Type 0} where
       let next = wake v (gets 0 false (v .by)) m in
       (still (m .tasks) (v .who) u (gets 0 false (v .by)) y refl (fewer-all vs next u y w) .1, none-woken vs next u y w)
 
-  all-channels : (ws : List (Waiter P)) (m : Machine P) → wakeAll ws m .channels ≡ m .channels
+  pub all-channels : (ws : List (Waiter P)) (m : Machine P) → wakeAll ws m .channels ≡ m .channels
   unfolding wakeAll
   all-channels [] m = refl
   all-channels (w ∷ ws) m = all-channels ws (wake w (gets 0 false (w .by)) m)
