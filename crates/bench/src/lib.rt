@@ -18,12 +18,12 @@ fn step_rounds(
     body: &[u8],
     rows: u16,
     from: State,
-    values: [[u16; 16]; 16],
+    values: &[[u16; 16]; 16],
     t: Task,
     choice: u8,
     n: u32,
 ) -> u16
-    ensures { λ r. ⌜ r ≡ stepRounds (now (body .entry)) rows values t choice n from ⌝ }
+    ensures { λ r. ⌜ r ≡ stepRounds (now (body .entry)) rows (now (values .entry)) t choice n from ⌝ }
 {
     let mut s = from;
     let mut left = n;
@@ -72,7 +72,7 @@ fn rounds_of(
         turn_rounds(image, s, values, t, choice, rounds)
     } else {
         let k = counts_in(trailer_of(image));
-        step_rounds(body_of(image), k.rows, s, values, t, choice, rounds)
+        step_rounds(body_of(image), k.rows, s, &values, t, choice, rounds)
     }
 }
 

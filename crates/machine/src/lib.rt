@@ -150,7 +150,7 @@ fn turn_after(
     match answer {
         Checked::Good => {
             if fits(body, k, s) {
-                step(body, k.rows, s, values, task, choice)
+                step(body, k.rows, s, &values, task, choice)
             } else {
                 refuse(s, 17)
             }

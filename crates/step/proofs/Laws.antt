@@ -38,10 +38,10 @@ module _ (rs : List ℕ) (rows : ℕ) (s : State) (b : Values) (t : Task) (choic
   able-tests true false e = absurd (omega arith)
   able-tests false q e = absurd (omega arith)
 
-  pub step-refused : (n : ℕ) → n ≡ refusedBy s t → (n ≡ 0 → ⊥) → stepped rs rows s b t choice ≡ refusedTurn s n
+  pub step-refused : (n : ℕ) → n ≡ refusedBy (s .fault) (s .taskcount) t (taskIn (s .tasks) t .status) → (n ≡ 0 → ⊥) → stepped rs rows s b t choice ≡ refusedTurn s n
   unfolding stepped refusedBy
   step-refused n e h = by-tests (eqb (s .fault) noFault) (ltb (t .0) (s .taskcount)) n (sym e) h
 
-  pub step-acts : refusedBy s t ≡ 0 → stepped rs rows s b t choice ≡ acted rs rows s b t (taskIn (s .tasks) t) choice (rowsIn rs (taskIn (s .tasks) t .row))
+  pub step-acts : refusedBy (s .fault) (s .taskcount) t (taskIn (s .tasks) t .status) ≡ 0 → stepped rs rows s b t choice ≡ acted rs rows s b t (taskIn (s .tasks) t) choice (rowsIn rs (taskIn (s .tasks) t .row))
   unfolding stepped refusedBy actedAt
   step-acts e = able-tests (eqb (s .fault) noFault) (ltb (t .0) (s .taskcount)) e

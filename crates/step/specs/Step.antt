@@ -40,8 +40,8 @@ refusalOf Able = 0
 refusalOf Waiting = isWaiting
 refusalOf Ended = hasEnded
 
-unfoldable pub refusedBy : State → Task → ℕ
-refusedBy s t = cond (eqb (s .fault) noFault) (cond (ltb (t .0) (s .taskcount)) (refusalOf (taskIn (s .tasks) t .status)) noSuchTask) halted
+unfoldable pub refusedBy : ℕ → ℕ → Task → Status → ℕ
+refusedBy fault taskcount t status = cond (eqb fault noFault) (cond (ltb (t .0) taskcount) (refusalOf status) noSuchTask) halted
 
 module _ (rs : List ℕ) (rows : ℕ) (s : State) (b : Values) where
   abbrev pub acted : Task → TaskState → ℕ → Statement → Turned

@@ -74,14 +74,11 @@ pub fn refuse(s: State, number: u8) -> Turned
 }
 
 // The number by which a turn of task t is refused, 13, 14, 16 or 15, or 0.
-fn refused_by(s: State, t: Task) -> u8
-    ensures { λ r. ⌜ r ≡ refusedBy s t ⌝ }
+fn refused_by(fault: u8, taskcount: u8, t: Task, status: Status) -> u8
+    ensures { λ r. ⌜ r ≡ refusedBy fault taskcount t status ⌝ }
 {
-    if s.fault == 0 {
-        if t.0 < s.taskcount {
-            let at = (t.0 % 16) as usize;
-            let x = s.tasks[at];
-            let status = x.status;
+    if fault == 0 {
+        if t.0 < taskcount {
             return refusal_of(status);
         }
         return 14;
@@ -95,30 +92,31 @@ pub fn step(
     body: &[u8],
     rows: u16,
     s: State,
-    values: [[u16; 16]; 16],
+    values: &[[u16; 16]; 16],
     t: Task,
     choice: u8,
 ) -> Turned
-    ensures { λ r. ⌜ r ≡ stepped (now (body .entry)) rows s values t choice ⌝ }
+    ensures { λ r. ⌜ r ≡ stepped (now (body .entry)) rows s (now (values .entry)) t choice ⌝ }
 {
-    let number = refused_by(s, t);
+    let at = (t.0 % 16) as usize;
+    let x = s.tasks[at];
+    let status = x.status;
+    let number = refused_by(s.fault, s.taskcount, t, status);
     if number != 0 {
         return refuse(s, number);
     }
-    let at = (t.0 % 16) as usize;
-    let x = s.tasks[at];
     let statement = statement_at(body, x.row.0 as u32);
     match statement {
-        Statement::Do(o, n) => apply(s, t, do_op(body, rows, s, &values, t, x, o, n, n)),
+        Statement::Do(o, n) => apply(s, t, do_op(body, rows, s, values, t, x, o, n, n)),
         Statement::Close(p, n) => close_port(body, s, t, x, p, n),
         Statement::Range(p, n, a) => apply(
             s,
             t,
-            do_op(body, rows, s, &values, t, x, Op::Recv(p), n, a),
+            do_op(body, rows, s, values, t, x, Op::Recv(p), n, a),
         ),
         Statement::Repeat(d, k, n, a) => apply(s, t, repeat(s, t, x, d, k, n, a)),
         Statement::Ifok(n, a) => apply(s, t, ifok(s, t, x, n, a)),
-        Statement::Select(k, e) => apply(s, t, select(body, rows, s, &values, t, x, k, e, choice)),
+        Statement::Select(k, e) => apply(s, t, select(body, rows, s, values, t, x, k, e, choice)),
         Statement::Case(_, _) => apply(s, t, end(s, t, x)),
         Statement::Stop => apply(s, t, end(s, t, x)),
     }

@@ -8,7 +8,7 @@ use Rattle.bench.proofs.rounds_of.Tie as tie
 
 returns-2 : tie.Need-returns-2
 unfolding rowCount countsIn
-returns-2 c = rw (c .before .before .before .before .if1 .left, ← c .before .body-of .ensures, ← c .before .before .before .trailer-of .ensures) (c .step-rounds .ensures ∙ rw (c .before .before .counts-in .ensures))
+returns-2 c = rw (c .before .before .before .before .before .if1 .left, ← c .before .before .body-of .ensures, ← c .before .before .before .before .trailer-of .ensures) (c .step-rounds .ensures ∙ rw (c .before .before .before .counts-in .ensures))
 
 pub rounds-of-spec : {M : Type 1} → statement M
 rounds-of-spec =

@@ -17,7 +17,7 @@ loop-again : tie.Need-loop-again Inv-loop μ-loop
 loop-again c =
     let a = c .before .before .before .before .before .args in
     let l = c .before .before .before .loop in
-    l .inv ∙ step-round (now (a .body)) (a .rows) (a .values) (a .t) (a .choice) (l .left) (l .s) (c .before .before .loop-test .taken) ∙ rw (c .before .step .ensures)
+    l .inv ∙ step-round (now (a .body)) (a .rows) (now (a .values)) (a .t) (a .choice) (l .left) (l .s) (c .before .before .loop-test .taken) ∙ rw (c .before .step .ensures)
 
 returns : tie.Need-returns Inv-loop μ-loop
 unfolding stepRounds

@@ -12,6 +12,6 @@ turn-after-spec =
     (λ c κs. search needs)
     (λ c. search needs)
     (λ c κs. search needs)
-    (λ c. rw (c .before .before .before .enum-told .given .1, c .step .ensures, ← c .before .before .fits2 .ensures, c .before .if1 .taken))
+    (λ c. rw (c .before .before .before .before .enum-told .given .1, c .step .ensures, ← c .before .before .before .fits2 .ensures, c .before .before .if1 .taken))
     (λ c. rw (c .before .before .before .enum-told .given .1, c .refuse .ensures, ← c .before .before .fits2 .ensures, c .before .if1 .left))
     (λ c. rw (c .before .before .answer .given .1, c .refuse2 .ensures)))

@@ -6,7 +6,7 @@ use Rattle.step.proofs.refused_by.Tie as tie
 
 returns : tie.Need-returns
 unfolding refusedBy
-returns c = rw (c .refusal-of .ensures, lt-ltb _ _ (c .before .before .before .if2 .taken), eq-eqb _ _ (c .before .before .before .before .before .if1 .taken))
+returns c = rw (c .refusal-of .ensures, lt-ltb _ _ (c .before .if2 .taken), eq-eqb _ _ (c .before .before .before .if1 .taken))
 
 returns-2 : tie.Need-returns-2
 unfolding refusedBy
@@ -17,6 +17,4 @@ unfolding refusedBy
 returns-3 c = rw (ne-eqb _ _ (c .if1 .left))
 
 pub refused-by-spec : {M : Type 1} → statement M
-refused-by-spec =
-    tie.close
-    (tie.spec (λ c. search needs) (λ c. search needs) (λ c. search needs) (λ c κs. search needs) returns returns-2 returns-3)
+refused-by-spec = tie.close (tie.spec (λ c κs. search needs) returns returns-2 returns-3)
