@@ -1,12 +1,11 @@
 // What append and take do to a channel record, by value.
 ghost use mathlib.Core.Path.{_≡_};
-ghost use Prim.Native.Nat.{_≤_};
-ghost use Rattle.state.specs.State.{shifted};
 ghost use Rattle.lent.specs.Channels.{appendedTo, tookFrom};
 use crate::Added;
 use crate::Channel;
 use crate::Taken;
 use crate::Took;
+use state::values::shift;
 
 pub fn add_to(c: Channel, v: u16) -> Added
     ensures { λ r. ⌜ r ≡ appendedTo c v ⌝ }
@@ -33,21 +32,6 @@ pub fn add_to(c: Channel, v: u16) -> Added
         ok: true,
         channel: after,
     }
-}
-
-// The first len values of a row without the oldest, the cells behind them 0.
-fn shift(row: [u16; 16], len: u8) -> [u16; 16]
-    requires { ⌜ len ≤ 16 ⌝ }
-    ensures { λ r. ⌜ r ≡ shifted row len ⌝ }
-{
-    let n = len as usize;
-    let mut rest = [0u16; 16];
-    let mut i = 0;
-    while i + 1 < n {
-        rest[i] = row[i + 1];
-        i = i + 1;
-    }
-    rest
 }
 
 pub fn take_from(c: Channel) -> Took

@@ -15,7 +15,7 @@ pub fn oldest_in(values: &[[u16; 16]; 16], c: Chan) -> u16
 }
 
 // The first len values of a row without the oldest, the cells behind them 0.
-fn shift(row: [u16; 16], len: u8) -> [u16; 16]
+pub fn shift(row: [u16; 16], len: u8) -> [u16; 16]
     requires { ⌜ len ≤ 16 ⌝ }
     ensures { λ r. ⌜ r ≡ shifted row len ⌝ }
 {
