@@ -5,8 +5,7 @@
 // No enum can hold a struct that holds a reference, so `open` cannot answer "refused, or opened": the check's answer stands in
 // the struct. Its fields are private, so that `open` alone makes one.
 ghost use mathlib.Core.Path.{_≡_};
-ghost use Rattle.image.specs.Check.{checked};
-ghost use Rattle.opened.specs.Asked.{openedOf, rowAsked, capacityAsked, firstRowAsked, rowOf, capacityOf, firstRowOf, answersOf};
+ghost use Rattle.opened.specs.Asked.{openedOf, rowAsked, capacityAsked, firstRowAsked, answersOf};
 
 mod ask;
 
@@ -92,34 +91,8 @@ pub fn first_row<'a>(o: Opened<'a>, t: Task) -> FirstRowAnswer
     first_row_asked(o.image, o.held, t)
 }
 
-// The same of an image that is opened for the one question. Whoever calls these has no such struct in hand, and its proof
-// needs no walk.
-
-pub fn answer_of(image: &[u8]) -> Checked
-    ensures { λ r. ⌜ r ≡ checked (now (image .entry)) ⌝ }
-{
-    answer(open(image))
-}
-
-pub fn row_of(image: &[u8], n: Row) -> RowAnswer
-    ensures { λ r. ⌜ r ≡ rowOf (now (image .entry)) n ⌝ }
-{
-    row(open(image), n)
-}
-
-pub fn capacity_of(image: &[u8], c: Chan) -> CapacityAnswer
-    ensures { λ r. ⌜ r ≡ capacityOf (now (image .entry)) c ⌝ }
-{
-    capacity(open(image), c)
-}
-
-pub fn first_row_of(image: &[u8], t: Task) -> FirstRowAnswer
-    ensures { λ r. ⌜ r ≡ firstRowOf (now (image .entry)) t ⌝ }
-{
-    first_row(open(image), t)
-}
-
-// A question of each kind, of an image that is opened once for all of them.
+// A question of each kind, of an image that is opened once for all of them. Whoever calls this has no such struct in hand, and
+// its proof needs no walk.
 pub fn answers_of(image: &[u8], n: Row, c: Chan, t: Task) -> Answers
     ensures { λ r. ⌜ r ≡ answersOf (now (image .entry)) n c t ⌝ }
 {

@@ -39,7 +39,8 @@ counted size n (bad m place) = Counted.Refused m place
 abbrev pub self : ℕ → ℕ
 self n = n
 
--- A job's rows, channels and tasks. Crate `accepted` shows that `none` never comes (`reading-decided`), and that every refusal is one of 1 to 10 (`reading-number`).
+-- A job's rows, channels and tasks. Crate `accepted` shows that `none` never comes (`reading-decided`) and that
+-- every refusal is one of 1 to 10 (`reading-number`).
 unfoldable pub toldJob : Part Job → Reading
 toldJob (got j at rows) = Reading.Job rows (length (j .capacities)) (length (j .tasks))
 toldJob none = Reading.Refused 0 0

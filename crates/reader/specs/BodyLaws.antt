@@ -3,16 +3,16 @@ use mathlib.Core.Path.{_≡_, refl, sym, ap, _∙_}
 use mathlib.Core.List.{List}
 use Prim.Native.Nat.{ℕ, zero, suc, _+_, _-_, _≤_, _<_}
 use native.Mathlib.Omega.{arith}
-use borrow.Author.Tests.{ne-eqb, lt-ltb}
+use borrow.Author.Tests.{eq-eqb, ne-eqb, lt-ltb, le-ltb}
 use Rattle.meaning.specs.declared.Op.{Op}
-use Rattle.meaning.specs.Numbers.{caseLimit, rowLimit}
-use Rattle.meaning.specs.Text.{Stmt, Body, _▸_, Cases, nomore, case}
+use Rattle.meaning.specs.Numbers.{caseLimit, rowLimit, oneTooMany, rowsFull}
+use Rattle.meaning.specs.Text.{Stmt, ifok, Body, empty, _▸_, Cases, nomore, default, case}
 use Rattle.words.specs.declared.Word.{Word}
-use Rattle.words.specs.Words.{caseKind, wordAt}
+use Rattle.words.specs.Words.{elseKind, caseKind, defaultKind, wordAt}
 use Rattle.reader.specs.declared.Read.{Read}
 use Rattle.reader.specs.declared.Counted.{Counted}
 use Rattle.reader.specs.declared.OpRead.{OpRead}
-use Rattle.reader.specs.Reading.{Part, got, none, bad, bind, opBy, orMisplaced, caseOp, caseBy, lastBy, casesBy, casesFrom, stmtBy, bodyBy, bodyFrom}
+use Rattle.reader.specs.Reading.{Part, got, none, bad, bind, closed, opBy, secondBy, orMisplaced, caseOp, caseBy, lastBy, casesBy, casesFrom, stmtBy, bodyBy, bodyFrom}
 use Rattle.reader.specs.Answers.{told, self, counted, opPart, OpTold, outOfPlace, BodyTold, StmtTold, CaseTold, CasesTold, countBy, countFrom}
 use Rattle.reader.specs.PartLaws.{told-got, told-with, told-misplaced, All, counted-more, counted-last}
 use Rattle.reader.specs.SizeLaws.{SizedB, SizedS, SizedCase, case-sized, stmt-sized, body-sized}
@@ -200,6 +200,36 @@ module _ (s : List ℕ) (channels depth at rows : ℕ) where
 
   pub cases-refused : (k : ℕ) {n place : ℕ} {w : Counted} → w ≡ counted self 0 (countFrom s channels (bodyFrom k s channels depth) caseLimit at rows) → w ≡ Counted.Refused n place → Read.Refused n place ≡ told (casesFrom s channels (bodyFrom k s channels depth) caseLimit at rows)
   cases-refused k e d = count-bad s channels (bodyFrom k s channels depth) (body-sized k s channels depth) caseLimit at rows e d
+
+-- What the word w at a place decides: behind a first body, behind the cases, and ahead of a case.
+module _ (s : List ℕ) (channels : ℕ) (sub : ℕ → ℕ → Part Body) (at rows : ℕ) {w : Word} (e : w ≡ wordAt s at) where
+  pub second-else : (b : Body) {v : Read} → w .kind ≡ elseKind → v ≡ told (bind (sub (w .next) rows) (λ c at r. closed s (ifok b c) at r)) → v ≡ told (secondBy s channels sub b at (wordAt s at) rows)
+  unfolding secondBy
+  second-else b q h = rw (← e, eq-eqb _ _ q) h
+
+  pub second-end : (b : Body) {v : Read} → (w .kind ≡ elseKind → ⊥) → v ≡ told (closed s (ifok b empty) at rows) → v ≡ told (secondBy s channels sub b at (wordAt s at) rows)
+  unfolding secondBy
+  second-end b n h = rw (ne-eqb _ _ (rw e at n)) h
+
+  pub last-default : {v : Read} → w .kind ≡ defaultKind → v ≡ told (sub (w .next) rows) → v ≡ told (lastBy s channels sub at (wordAt s at) rows)
+  unfolding lastBy
+  last-default q h = rw (← e, eq-eqb _ _ q) (h ∙ told-with (sub (w .next) rows) default)
+
+  pub last-none : (w .kind ≡ defaultKind → ⊥) → Read.Done at rows ≡ told (lastBy s channels sub at (wordAt s at) rows)
+  unfolding lastBy told
+  last-none n = rw (← e, ne-eqb _ _ n)
+
+  pub no-case : (left : ℕ) → (w .kind ≡ caseKind → ⊥) → Read.Nothing ≡ told (caseBy s channels sub left (wordAt s at) rows)
+  unfolding caseBy told
+  no-case left n = rw (← e, ne-eqb _ _ n)
+
+  pub case-over : (left : ℕ) → w .kind ≡ caseKind → left ≡ 0 → Read.Refused oneTooMany (w .start) ≡ told (caseBy s channels sub left (wordAt s at) rows)
+  unfolding caseBy told
+  case-over left q z = rw (← e, eq-eqb _ _ q, eq-eqb _ _ z)
+
+  pub case-full : (left : ℕ) → w .kind ≡ caseKind → (left ≡ 0 → ⊥) → rowLimit ≤ rows → Read.Refused rowsFull (w .start) ≡ told (caseBy s channels sub left (wordAt s at) rows)
+  unfolding caseBy told
+  case-full left q n h = rw (← e, eq-eqb _ _ q, ne-eqb _ _ n, le-ltb _ _ h)
 
 -- A case within its limits, by its operation, whose first word is `first`.
 module _ (s : List ℕ) (channels : ℕ) (sub : ℕ → ℕ → Part Body) (left rows : ℕ) (w first : Word) (e : first ≡ wordAt s (w .next)) (k : w .kind ≡ caseKind) (n : left ≡ 0 → ⊥) (h : rows < rowLimit) where

@@ -17,6 +17,18 @@ use Rattle.reader.specs.Answers.{told, counted, outOfPlace}
 
 -- WHAT IS TOLD OF A PART
 
+pub done-told : {A : Type 0} (x : A) (at rows : ℕ) → Read.Done at rows ≡ told (got x at rows)
+unfolding told
+done-told x at rows = refl
+
+pub nothing-told : (A : Type 0) → Read.Nothing ≡ told {A = A} none
+unfolding told
+nothing-told A = refl
+
+pub refused-told : (A : Type 0) (n place : ℕ) → Read.Refused n place ≡ told {A = A} (bad n place)
+unfolding told
+refused-told A n place = refl
+
 pub told-got : {A : Type 0} (p : Part A) {at rows : ℕ} → Read.Done at rows ≡ told p → (x : A) × (p ≡ got x at rows)
 unfolding told
 told-got (got x at′ rows′) e = (x, cc)

@@ -5,7 +5,7 @@ ghost use mathlib.Core.Path.{_≡_};
 ghost use Prim.Native.Nat.{_≤_};
 ghost use lib.ListN.{take};
 ghost use Rattle.state.specs.Cells.{keep};
-ghost use Rattle.state.specs.State.{gotTask, wentTask, stoodTask, lapTask, lapOf, taskIn, chanIn, Line·of, other, joinedLine, lineAfter, applied, quietPlan, wakingPlan, storingPlan, joiningPlan, haltingPlan};
+ghost use Rattle.state.specs.State.{gotTask, wentTask, stoodTask, lapTask, lapOf, chanIn, Line·of, other, joinedLine, lineAfter, applied, quietPlan, wakingPlan, storingPlan, joiningPlan, haltingPlan};
 
 pub mod values;
 
@@ -89,13 +89,6 @@ pub struct Line {
 }
 
 // READING
-
-pub fn task_in(tasks: [TaskState; 16], t: Task) -> TaskState
-    ensures { λ r. ⌜ r ≡ taskIn tasks t ⌝ }
-{
-    let i = (t.0 % 16) as usize;
-    tasks[i]
-}
 
 pub fn chan_in(chans: [ChanState; 16], c: Chan) -> ChanState
     ensures { λ r. ⌜ r ≡ chanIn chans c ⌝ }

@@ -101,34 +101,17 @@ fn say_first_row(t: u8, a: FirstRowAnswer) {
     put(b"\n");
 }
 
-// Every row, channel and task of the listing, and one past each end.
-fn say_listing(image: &[u8]) {
-    say_check(opened::answer_of(image));
-    say_row(0, opened::row_of(image, Row(0)));
-    say_row(1, opened::row_of(image, Row(1)));
-    say_row(2, opened::row_of(image, Row(2)));
-    say_row(3, opened::row_of(image, Row(3)));
-    say_row(4, opened::row_of(image, Row(4)));
-    say_row(5, opened::row_of(image, Row(5)));
-    say_row(6, opened::row_of(image, Row(6)));
-    say_capacity(0, opened::capacity_of(image, Chan(0)));
-    say_capacity(1, opened::capacity_of(image, Chan(1)));
-    say_first_row(0, opened::first_row_of(image, Task(0)));
-    say_first_row(1, opened::first_row_of(image, Task(1)));
-    say_first_row(2, opened::first_row_of(image, Task(2)));
-}
-
-// Of an image with a fault in it, opened once: the check's answer, and what a good one would have.
-fn say_refused(image: &[u8]) {
-    let a = opened::answers_of(image, Row(0), Chan(0), Task(0));
+// The answers of one opening: the check's, and the row, channel and task of this number.
+fn say_asked(image: &[u8], n: u8) {
+    let a = opened::answers_of(image, Row(n as u16), Chan(n), Task(n));
     let check = a.check;
     let row = a.row;
     let capacity = a.capacity;
     let start = a.start;
     say_check(check);
-    say_row(0, row);
-    say_capacity(0, capacity);
-    say_first_row(0, start);
+    say_row(n as u16, row);
+    say_capacity(n, capacity);
+    say_first_row(n, start);
 }
 
 // THE LENT CHANNEL
@@ -182,17 +165,24 @@ fn channel(capacity: u8, closed: bool, len: u8, values: [u16; 16]) -> Channel {
 
 fn main() {
     let image = listing();
-    say_listing(&image);
+    // every row, channel and task of the listing, and past each end
+    say_asked(&image, 0);
+    say_asked(&image, 1);
+    say_asked(&image, 2);
+    say_asked(&image, 3);
+    say_asked(&image, 4);
+    say_asked(&image, 5);
+    say_asked(&image, 6);
     // four bytes, too few for a trailer
-    say_refused(&image[60..]);
+    say_asked(&image[60..], 0);
     // another mark
     let mut unmarked = image;
     unmarked[62] = 0;
-    say_refused(&unmarked);
+    say_asked(&unmarked, 0);
     // row 2 leads to row 6, which isn't there
     let mut astray = image;
     astray[23] = 6;
-    say_refused(&astray);
+    say_asked(&astray, 0);
 
     // the listing's channel, of capacity 1: no value yet, then room for one
     let empty = [0u16; 16];

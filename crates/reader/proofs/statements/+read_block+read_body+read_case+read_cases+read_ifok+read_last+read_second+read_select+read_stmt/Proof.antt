@@ -2,18 +2,16 @@ use mathlib.Core.Path.{_≡_, refl, _∙_}
 use Prim.Native.Nat.{ℕ, suc, _<_, _≤_, _+_, _-_, _*_}
 use native.Mathlib.Omega.{arith}
 use borrow.Author.Needs.{needs}
-use borrow.Author.Tests.{eq-eqb, ne-eqb, le-ltb}
 use borrow.Fn.Kinds.{In}
 use borrow.Fn.PlainCycle.{Measures, is, falls, and}
-use denote.Ref.{now}
 use Rattle.meaning.specs.Numbers.{caseLimit, rowLimit}
-use Rattle.meaning.specs.Text.{range, repeat, ifok, select, empty, default}
+use Rattle.meaning.specs.Text.{range, repeat, ifok, select, empty}
 use Rattle.words.proofs.word_at.Reads as word-at-reads
-use Rattle.reader.specs.Reading.{bodyFrom, secondBy, caseBy, lastBy}
+use Rattle.reader.specs.Reading.{bodyFrom}
 use Rattle.reader.specs.Answers.{told, counted, countFrom, self}
-use Rattle.reader.specs.PartLaws.{bind-done, bind-stop, told-with}
+use Rattle.reader.specs.PartLaws.{done-told, nothing-told, refused-told, bind-done, bind-stop}
 use Rattle.reader.specs.HeadLaws.{head-told, head-stmt}
-use Rattle.reader.specs.BodyLaws.{stmt-grows, body-grows, body-step, body-end, body-refused, count-step, count-end, count-refused, case-grows, cases-grow, cases-told, cases-refused, case-refused, case-misplaced, case-got}
+use Rattle.reader.specs.BodyLaws.{second-else, second-end, last-default, last-none, no-case, case-over, case-full, stmt-grows, body-grows, body-step, body-end, body-refused, count-step, count-end, count-refused, case-grows, cases-grow, cases-told, cases-refused, case-refused, case-misplaced, case-got}
 use Rattle.reader.proofs.Stops.{stops}
 use Rattle.reader.proofs.statements.+read_block+read_body+read_case+read_cases+read_ifok+read_last+read_second+read_select+read_stmt.{statement}
 use Rattle.reader.proofs.statements.+read_block+read_body+read_case+read_cases+read_ifok+read_last+read_second+read_select+read_stmt.Tie.{close}
@@ -150,155 +148,11 @@ read-body-Inv-loop text channels depth from before at₀ rows₀ at rows = (befo
 abbrev read-body-μ-loop : read-body-lts.MeasureT-loop
 read-body-μ-loop text channels depth from before at₀ rows₀ at rows = suc rowLimit - rows
 
-read-case-returns : (t : ℕ) → read-case-lts.Need-returns (
-  word-at-reads.Asked,
-  word-at-reads.Learnt,
-  read-op-reads.Asked,
-  read-op-reads.Learnt,
-  misplaced-reads.Asked,
-  misplaced-reads.Learnt,
-  read-body-below t,
-  read-body.Post,
-) (read-case-at t) read-case.Post
-unfolding caseBy told
-read-case-returns t c = λ k h. rw (← c .before .word-at .ensures, ne-eqb _ _ (c .if1 .taken))
-
-read-case-returns-2 : (t : ℕ) → read-case-lts.Need-returns-2 (
-  word-at-reads.Asked,
-  word-at-reads.Learnt,
-  read-op-reads.Asked,
-  read-op-reads.Learnt,
-  misplaced-reads.Asked,
-  misplaced-reads.Learnt,
-  read-body-below t,
-  read-body.Post,
-) (read-case-at t) read-case.Post
-unfolding caseBy told
-read-case-returns-2 t c = λ k h. rw (← c .before .before .word-at .ensures, eq-eqb _ _ (c .before .if1 .left), eq-eqb _ _ (c .if2 .taken))
-
-read-case-returns-3 : (t : ℕ) → read-case-lts.Need-returns-3 (
-  word-at-reads.Asked,
-  word-at-reads.Learnt,
-  read-op-reads.Asked,
-  read-op-reads.Learnt,
-  misplaced-reads.Asked,
-  misplaced-reads.Learnt,
-  read-body-below t,
-  read-body.Post,
-) (read-case-at t) read-case.Post
-unfolding caseBy told
-read-case-returns-3 t c = λ k h. rw (← c .before .before .before .word-at .ensures, eq-eqb _ _ (c .before .before .if1 .left), ne-eqb _ _ (c .before .if2 .left), le-ltb _ _ (c .if3 .taken))
-
 abbrev read-cases-Inv-loop : read-cases-lts.InvT-loop
 read-cases-Inv-loop text channels depth from before at₀ rows₀ n₀ at rows n = (n ≤ caseLimit) × (before ≤ rows) × ((k : ℕ) → rowLimit - before < k → counted self n (countFrom text channels (bodyFrom k text channels depth) (caseLimit - n) at rows) ≡ counted self 0 (countFrom text channels (bodyFrom k text channels depth) caseLimit from before))
 
 abbrev read-cases-μ-loop : read-cases-lts.MeasureT-loop
 read-cases-μ-loop text channels depth from before at₀ rows₀ n₀ at rows n = suc rowLimit - rows
-
-read-last-returns : (t : ℕ) → read-last-lts.Need-returns (
-  word-at-reads.Asked,
-  word-at-reads.Learnt,
-  read-body-below t,
-  read-body.Post,
-) (read-last-at t) read-last.Post
-unfolding lastBy
-read-last-returns t c = λ k h. rw (← c .before .before .word-at .ensures, eq-eqb _ _ (c .before .if1 .taken)) (c .read-body .ensures k h ∙ told-with (bodyFrom k _ _ _ _ _) default)
-
-read-last-returns-2 : (t : ℕ) → read-last-lts.Need-returns-2 (
-  word-at-reads.Asked,
-  word-at-reads.Learnt,
-  read-body-below t,
-  read-body.Post,
-) (read-last-at t) read-last.Post
-unfolding lastBy told
-read-last-returns-2 t c = λ k h. rw (← c .before .word-at .ensures, ne-eqb _ _ (c .if1 .left))
-
-read-second-returns : (t : ℕ) → read-second-lts.Need-returns (
-  word-at-reads.Asked,
-  word-at-reads.Learnt,
-  read-block-below t,
-  read-block.Post,
-  read-end-reads.Asked,
-  read-end-reads.Learnt,
-) (read-second-at t) read-second.Post
-unfolding secondBy
-read-second-returns t c = λ k b h. rw (← c .before .before .word-at .ensures, eq-eqb _ _ (c .before .if1 .taken)) (c .read-block .ensures k (ifok b) h)
-
-read-second-returns-2 : (t : ℕ) → read-second-lts.Need-returns-2 (
-  word-at-reads.Asked,
-  word-at-reads.Learnt,
-  read-block-below t,
-  read-block.Post,
-  read-end-reads.Asked,
-  read-end-reads.Learnt,
-) (read-second-at t) read-second.Post
-unfolding secondBy
-read-second-returns-2 t c = λ k b h. rw (ne-eqb _ _ (rw (c .before .before .word-at .ensures) at (c .before .if1 .left))) (c .read-end .ensures (ifok b empty))
-
-read-stmt-returns : (t : ℕ) → read-stmt-lts.Need-returns (
-  read-head-reads.Asked,
-  read-head-reads.Learnt,
-  read-block-below t,
-  read-block.Post,
-  read-ifok-below t,
-  read-ifok.Post,
-  read-select-below t,
-  read-select.Post,
-) (read-stmt-at t) read-stmt.Post
-unfolding told
-read-stmt-returns t c = λ k h. head-stmt (now (c .before .before .before .before .before .args .text)) (c .before .before .before .before .before .args .channels) (c .before .before .before .before .before .args .depth) (c .before .before .before .before .before .args .at) (c .before .before .before .before .before .args .rows) (c .before .why .given .1) (c .before .before .before .read-head .ensures) _
-
-read-stmt-returns-2 : (t : ℕ) → read-stmt-lts.Need-returns-2 (
-  read-head-reads.Asked,
-  read-head-reads.Learnt,
-  read-block-below t,
-  read-block.Post,
-  read-ifok-below t,
-  read-ifok.Post,
-  read-select-below t,
-  read-select.Post,
-) (read-stmt-at t) read-stmt.Post
-unfolding told
-read-stmt-returns-2 t c = λ k h. head-stmt (now (c .before .before .before .before .args .text)) (c .before .before .before .before .args .channels) (c .before .before .before .before .args .depth) (c .before .before .before .before .args .at) (c .before .before .before .before .args .rows) (c .enum-told .given .1) (c .before .before .read-head .ensures) _
-
-read-stmt-returns-3 : (t : ℕ) → read-stmt-lts.Need-returns-3 (
-  read-head-reads.Asked,
-  read-head-reads.Learnt,
-  read-block-below t,
-  read-block.Post,
-  read-ifok-below t,
-  read-ifok.Post,
-  read-select-below t,
-  read-select.Post,
-) (read-stmt-at t) read-stmt.Post
-unfolding told
-read-stmt-returns-3 t c = λ k h. head-stmt (now (c .before .before .before .before .before .args .text)) (c .before .before .before .before .before .args .channels) (c .before .before .before .before .before .args .depth) (c .before .before .before .before .before .args .at) (c .before .before .before .before .before .args .rows) (c .before .next .given .1) (c .before .before .before .read-head .ensures) _
-
-read-stmt-returns-4 : (t : ℕ) → read-stmt-lts.Need-returns-4 (
-  read-head-reads.Asked,
-  read-head-reads.Learnt,
-  read-block-below t,
-  read-block.Post,
-  read-ifok-below t,
-  read-ifok.Post,
-  read-select-below t,
-  read-select.Post,
-) (read-stmt-at t) read-stmt.Post
-unfolding told
-read-stmt-returns-4 t c = λ k h. head-stmt (now (c .before .before .before .before .before .args .text)) (c .before .before .before .before .before .args .channels) (c .before .before .before .before .before .args .depth) (c .before .before .before .before .before .args .at) (c .before .before .before .before .before .args .rows) (c .before .next2 .given .1) (c .before .before .before .read-head .ensures) _
-
-read-stmt-returns-5 : (t : ℕ) → read-stmt-lts.Need-returns-5 (
-  read-head-reads.Asked,
-  read-head-reads.Learnt,
-  read-block-below t,
-  read-block.Post,
-  read-ifok-below t,
-  read-ifok.Post,
-  read-select-below t,
-  read-select.Post,
-) (read-stmt-at t) read-stmt.Post
-unfolding told
-read-stmt-returns-5 t c = λ k h. head-stmt (now (c .before .before .before .before .before .args .text)) (c .before .before .before .before .before .args .channels) (c .before .before .before .before .before .args .depth) (c .before .before .before .before .before .args .at) (c .before .before .before .before .before .args .rows) (c .before .next3 .given .1) (c .before .before .before .read-head .ensures) _
 
 pub +read-block+read-body+read-case+read-cases+read-ifok+read-last+read-second+read-select+read-stmt-spec :
     {M : Type 1} → statement M
@@ -360,9 +214,9 @@ pub +read-block+read-body+read-case+read-cases+read-ifok+read-last+read-second+r
     (read-case-at t)
     read-case.Post
     (λ c κs. search needs)
-    (read-case-returns t)
-    (read-case-returns-2 t)
-    (read-case-returns-3 t)
+    (λ c. λ k h. no-case _ _ _ _ _ (c .before .word-at .ensures) _ (c .if1 .taken))
+    (λ c. λ k h. case-over _ _ _ _ _ (c .before .before .word-at .ensures) _ (c .before .if1 .left) (c .if2 .taken))
+    (λ c. λ k h. case-full _ _ _ _ _ (c .before .before .before .word-at .ensures) _ (c .before .before .if1 .left) (c .before .if2 .left) (c .if3 .taken))
     (λ c κs. search needs)
     (λ c κs. search needs)
     (λ c. search needs)
@@ -419,8 +273,8 @@ pub +read-block+read-body+read-case+read-cases+read-ifok+read-last+read-second+r
     read-last.Post
     (λ c κs. search needs)
     (λ c κs. (omega arith, tt))
-    (read-last-returns t)
-    (read-last-returns-2 t))
+    (λ c. λ k h. last-default _ _ _ _ _ (c .before .before .word-at .ensures) (c .before .if1 .taken) (c .read-body .ensures k h))
+    (λ c. λ k h. last-none _ _ _ _ _ (c .before .word-at .ensures) (c .if1 .left)))
     (λ t. read-second-lts.spec (
       word-at-reads.Asked,
       word-at-reads.Learnt,
@@ -433,9 +287,9 @@ pub +read-block+read-body+read-case+read-cases+read-ifok+read-last+read-second+r
     read-second.Post
     (λ c κs. search needs)
     (λ c κs. (omega arith, tt))
-    (read-second-returns t)
+    (λ c. λ k b h. second-else _ _ _ _ _ (c .before .before .word-at .ensures) b (c .before .if1 .taken) (c .read-block .ensures k (ifok b) h))
     (λ c κs. search needs)
-    (read-second-returns-2 t))
+    (λ c. λ k b h. second-end _ _ _ _ _ (c .before .before .word-at .ensures) b (c .before .if1 .left) (c .read-end .ensures (ifok b empty))))
     (λ t. read-select-lts.spec (
       read-cases-below t,
       read-cases.Post,
@@ -451,10 +305,10 @@ pub +read-block+read-body+read-case+read-cases+read-ifok+read-last+read-second+r
     (λ c. search needs)
     (λ c κs. let g = cases-grow _ _ _ _ _ (c .before .behind .given .1) (c .before .before .before .read-cases .ensures) in (omega arith, tt))
     (λ c. search needs)
-    (λ c. λ k h. let g = cases-grow _ _ _ _ _ (c .before .before .before .behind .given .1) (c .before .before .before .before .before .read-cases .ensures) in bind-stop _ _ (stops (c .before .read-last .result) (c .match2 .keys2)) (cases-told (now (c .before .before .before .before .before .before .before .args .text)) (c .before .before .before .before .before .before .before .args .channels) (c .before .before .before .before .before .before .before .args .depth) (c .before .before .before .before .before .before .before .args .at) (c .before .before .before .before .before .before .before .args .rows) k (c .before .before .before .before .before .read-cases .ensures k h) (c .before .before .before .behind .given .1) (c .before .read-last .ensures k (omega arith))))
+    (λ c. λ k h. let g = cases-grow _ _ _ _ _ (c .before .before .before .behind .given .1) (c .before .before .before .before .before .read-cases .ensures) in bind-stop _ _ (stops (c .before .read-last .result) (c .match2 .keys2)) (cases-told _ _ _ _ _ k (c .before .before .before .before .before .read-cases .ensures k h) (c .before .before .before .behind .given .1) (c .before .read-last .ensures k (omega arith))))
     (λ c κs. search needs)
-    (λ c. λ k h. bind-stop _ _ tt (cases-refused (now (c .before .before .before .before .before .args .text)) (c .before .before .before .before .before .args .channels) (c .before .before .before .before .before .args .depth) (c .before .before .before .before .before .args .at) (c .before .before .before .before .before .args .rows) k (c .before .before .before .read-cases .ensures k h) (c .before .why .given .1)))
-    (λ c. λ k h. let g = cases-grow _ _ _ _ _ (c .before .before .before .before .before .before .behind .given .1) (c .before .before .before .before .before .before .before .before .read-cases .ensures) in bind-done _ _ _ (c .before .before .last .given .1) (cases-told (now (c .before .before .before .before .before .before .before .before .before .before .args .text)) (c .before .before .before .before .before .before .before .before .before .before .args .channels) (c .before .before .before .before .before .before .before .before .before .before .args .depth) (c .before .before .before .before .before .before .before .before .before .before .args .at) (c .before .before .before .before .before .before .before .before .before .before .args .rows) k (c .before .before .before .before .before .before .before .before .read-cases .ensures k h) (c .before .before .before .before .before .before .behind .given .1) (c .before .before .before .before .read-last .ensures k (omega arith))) (λ cs. c .read-end .ensures (select cs))))
+    (λ c. λ k h. bind-stop _ _ tt (cases-refused _ _ _ _ _ k (c .before .before .before .read-cases .ensures k h) (c .before .why .given .1)))
+    (λ c. λ k h. let g = cases-grow _ _ _ _ _ (c .before .before .before .before .before .before .behind .given .1) (c .before .before .before .before .before .before .before .before .read-cases .ensures) in bind-done _ _ _ (c .before .before .last .given .1) (cases-told _ _ _ _ _ k (c .before .before .before .before .before .before .before .before .read-cases .ensures k h) (c .before .before .before .before .before .before .behind .given .1) (c .before .before .before .before .read-last .ensures k (omega arith))) (λ cs. c .read-end .ensures (select cs))))
     λ t. read-stmt-lts.spec (
       read-head-reads.Asked,
       read-head-reads.Learnt,
@@ -471,33 +325,33 @@ pub +read-block+read-body+read-case+read-cases+read-ifok+read-last+read-second+r
     (λ c. search needs)
     (λ c. search needs)
     (λ c. search needs)
-    (λ c. let f = head-told (now (c .before .before .before .before .before .args .text)) (c .before .before .before .before .before .args .channels) (c .before .before .before .before .before .args .depth) (c .before .before .before .before .before .args .at) (c .before .before .before .before .before .args .rows) (c .before .next .given .1) (c .before .before .before .read-head .ensures) in omega arith)
+    (λ c. let f = head-told _ _ _ _ _ (c .before .next .given .1) (c .before .before .before .read-head .ensures) in omega arith)
     (λ c. search needs)
-    (λ c. let f = head-told (now (c .before .before .before .before .before .args .text)) (c .before .before .before .before .before .args .channels) (c .before .before .before .before .before .args .depth) (c .before .before .before .before .before .args .at) (c .before .before .before .before .before .args .rows) (c .before .next2 .given .1) (c .before .before .before .read-head .ensures) in omega arith)
+    (λ c. let f = head-told _ _ _ _ _ (c .before .next2 .given .1) (c .before .before .before .read-head .ensures) in omega arith)
     (λ c. search needs)
-    (λ c. let f = head-told (now (c .before .before .before .before .before .args .text)) (c .before .before .before .before .before .args .channels) (c .before .before .before .before .before .args .depth) (c .before .before .before .before .before .args .at) (c .before .before .before .before .before .args .rows) (c .before .next3 .given .1) (c .before .before .before .read-head .ensures) in omega arith)
+    (λ c. let f = head-told _ _ _ _ _ (c .before .next3 .given .1) (c .before .before .before .read-head .ensures) in omega arith)
     (λ c. search needs)
-    (λ c. let f = head-told (now (c .before .before .before .before .before .args .text)) (c .before .before .before .before .before .args .channels) (c .before .before .before .before .before .args .depth) (c .before .before .before .before .before .args .at) (c .before .before .before .before .before .args .rows) (c .before .next4 .given .1) (c .before .before .before .read-head .ensures) in omega arith)
-    (λ c. let f = head-told (now (c .before .before .before .before .before .args .text)) (c .before .before .before .before .before .args .channels) (c .before .before .before .before .before .args .depth) (c .before .before .before .before .before .args .at) (c .before .before .before .before .before .args .rows) (c .before .next4 .given .1) (c .before .before .before .read-head .ensures) in omega arith)
-    (λ c κs. let f = head-told (now (c .before .before .before .before .before .args .text)) (c .before .before .before .before .before .args .channels) (c .before .before .before .before .before .args .depth) (c .before .before .before .before .before .args .at) (c .before .before .before .before .before .args .rows) (c .before .next4 .given .1) (c .before .before .before .read-head .ensures) in (omega arith, tt))
+    (λ c. let f = head-told _ _ _ _ _ (c .before .next4 .given .1) (c .before .before .before .read-head .ensures) in omega arith)
+    (λ c. let f = head-told _ _ _ _ _ (c .before .next4 .given .1) (c .before .before .before .read-head .ensures) in omega arith)
+    (λ c κs. let f = head-told _ _ _ _ _ (c .before .next4 .given .1) (c .before .before .before .read-head .ensures) in (omega arith, tt))
     (λ c. search needs)
-    (λ c. let f = head-told (now (c .before .before .before .before .before .args .text)) (c .before .before .before .before .before .args .channels) (c .before .before .before .before .before .args .depth) (c .before .before .before .before .before .args .at) (c .before .before .before .before .before .args .rows) (c .before .next5 .given .1) (c .before .before .before .read-head .ensures) in omega arith)
-    (λ c. let f = head-told (now (c .before .before .before .before .before .args .text)) (c .before .before .before .before .before .args .channels) (c .before .before .before .before .before .args .depth) (c .before .before .before .before .before .args .at) (c .before .before .before .before .before .args .rows) (c .before .next5 .given .1) (c .before .before .before .read-head .ensures) in omega arith)
-    (λ c κs. let f = head-told (now (c .before .before .before .before .before .args .text)) (c .before .before .before .before .before .args .channels) (c .before .before .before .before .before .args .depth) (c .before .before .before .before .before .args .at) (c .before .before .before .before .before .args .rows) (c .before .next5 .given .1) (c .before .before .before .read-head .ensures) in (omega arith, tt))
+    (λ c. let f = head-told _ _ _ _ _ (c .before .next5 .given .1) (c .before .before .before .read-head .ensures) in omega arith)
+    (λ c. let f = head-told _ _ _ _ _ (c .before .next5 .given .1) (c .before .before .before .read-head .ensures) in omega arith)
+    (λ c κs. let f = head-told _ _ _ _ _ (c .before .next5 .given .1) (c .before .before .before .read-head .ensures) in (omega arith, tt))
     (λ c. search needs)
-    (λ c. let f = head-told (now (c .before .before .before .before .before .args .text)) (c .before .before .before .before .before .args .channels) (c .before .before .before .before .before .args .depth) (c .before .before .before .before .before .args .at) (c .before .before .before .before .before .args .rows) (c .before .next6 .given .1) (c .before .before .before .read-head .ensures) in omega arith)
-    (λ c. let f = head-told (now (c .before .before .before .before .before .args .text)) (c .before .before .before .before .before .args .channels) (c .before .before .before .before .before .args .depth) (c .before .before .before .before .before .args .at) (c .before .before .before .before .before .args .rows) (c .before .next6 .given .1) (c .before .before .before .read-head .ensures) in omega arith)
-    (λ c κs. let f = head-told (now (c .before .before .before .before .before .args .text)) (c .before .before .before .before .before .args .channels) (c .before .before .before .before .before .args .depth) (c .before .before .before .before .before .args .at) (c .before .before .before .before .before .args .rows) (c .before .next6 .given .1) (c .before .before .before .read-head .ensures) in (omega arith, tt))
+    (λ c. let f = head-told _ _ _ _ _ (c .before .next6 .given .1) (c .before .before .before .read-head .ensures) in omega arith)
+    (λ c. let f = head-told _ _ _ _ _ (c .before .next6 .given .1) (c .before .before .before .read-head .ensures) in omega arith)
+    (λ c κs. let f = head-told _ _ _ _ _ (c .before .next6 .given .1) (c .before .before .before .read-head .ensures) in (omega arith, tt))
     (λ c. search needs)
-    (λ c. let f = head-told (now (c .before .before .before .before .before .args .text)) (c .before .before .before .before .before .args .channels) (c .before .before .before .before .before .args .depth) (c .before .before .before .before .before .args .at) (c .before .before .before .before .before .args .rows) (c .before .next7 .given .1) (c .before .before .before .read-head .ensures) in omega arith)
-    (λ c. let f = head-told (now (c .before .before .before .before .before .args .text)) (c .before .before .before .before .before .args .channels) (c .before .before .before .before .before .args .depth) (c .before .before .before .before .before .args .at) (c .before .before .before .before .before .args .rows) (c .before .next7 .given .1) (c .before .before .before .read-head .ensures) in omega arith)
-    (λ c κs. let f = head-told (now (c .before .before .before .before .before .args .text)) (c .before .before .before .before .before .args .channels) (c .before .before .before .before .before .args .depth) (c .before .before .before .before .before .args .at) (c .before .before .before .before .before .args .rows) (c .before .next7 .given .1) (c .before .before .before .read-head .ensures) in (omega arith, tt))
-    (read-stmt-returns t)
-    (read-stmt-returns-2 t)
-    (read-stmt-returns-3 t)
-    (read-stmt-returns-4 t)
-    (read-stmt-returns-5 t)
-    (λ c. λ k h. let f = head-told (now (c .before .before .before .before .before .before .args .text)) (c .before .before .before .before .before .before .args .channels) (c .before .before .before .before .before .before .args .depth) (c .before .before .before .before .before .before .args .at) (c .before .before .before .before .before .before .args .rows) (c .before .before .next4 .given .1) (c .before .before .before .before .read-head .ensures) in c .read-block .ensures k (range _) (omega arith) ∙ head-stmt (now (c .before .before .before .before .before .before .args .text)) (c .before .before .before .before .before .before .args .channels) (c .before .before .before .before .before .before .args .depth) (c .before .before .before .before .before .before .args .at) (c .before .before .before .before .before .before .args .rows) (c .before .before .next4 .given .1) (c .before .before .before .before .read-head .ensures) _)
-    (λ c. λ k h. let f = head-told (now (c .before .before .before .before .before .before .args .text)) (c .before .before .before .before .before .before .args .channels) (c .before .before .before .before .before .before .args .depth) (c .before .before .before .before .before .before .args .at) (c .before .before .before .before .before .before .args .rows) (c .before .before .next5 .given .1) (c .before .before .before .before .read-head .ensures) in c .read-block2 .ensures k (repeat _) (omega arith) ∙ head-stmt (now (c .before .before .before .before .before .before .args .text)) (c .before .before .before .before .before .before .args .channels) (c .before .before .before .before .before .before .args .depth) (c .before .before .before .before .before .before .args .at) (c .before .before .before .before .before .before .args .rows) (c .before .before .next5 .given .1) (c .before .before .before .before .read-head .ensures) _)
-    (λ c. λ k h. let f = head-told (now (c .before .before .before .before .before .before .args .text)) (c .before .before .before .before .before .before .args .channels) (c .before .before .before .before .before .before .args .depth) (c .before .before .before .before .before .before .args .at) (c .before .before .before .before .before .before .args .rows) (c .before .before .next6 .given .1) (c .before .before .before .before .read-head .ensures) in c .read-ifok .ensures k (omega arith) ∙ head-stmt (now (c .before .before .before .before .before .before .args .text)) (c .before .before .before .before .before .before .args .channels) (c .before .before .before .before .before .before .args .depth) (c .before .before .before .before .before .before .args .at) (c .before .before .before .before .before .before .args .rows) (c .before .before .next6 .given .1) (c .before .before .before .before .read-head .ensures) _)
-    (λ c. λ k h. let f = head-told (now (c .before .before .before .before .before .before .args .text)) (c .before .before .before .before .before .before .args .channels) (c .before .before .before .before .before .before .args .depth) (c .before .before .before .before .before .before .args .at) (c .before .before .before .before .before .before .args .rows) (c .before .before .next7 .given .1) (c .before .before .before .before .read-head .ensures) in c .read-select .ensures k (omega arith) ∙ head-stmt (now (c .before .before .before .before .before .before .args .text)) (c .before .before .before .before .before .before .args .channels) (c .before .before .before .before .before .before .args .depth) (c .before .before .before .before .before .before .args .at) (c .before .before .before .before .before .before .args .rows) (c .before .before .next7 .given .1) (c .before .before .before .before .read-head .ensures) _)
+    (λ c. let f = head-told _ _ _ _ _ (c .before .next7 .given .1) (c .before .before .before .read-head .ensures) in omega arith)
+    (λ c. let f = head-told _ _ _ _ _ (c .before .next7 .given .1) (c .before .before .before .read-head .ensures) in omega arith)
+    (λ c κs. let f = head-told _ _ _ _ _ (c .before .next7 .given .1) (c .before .before .before .read-head .ensures) in (omega arith, tt))
+    (λ c. λ k h. refused-told _ _ _ ∙ head-stmt _ _ _ _ _ (c .before .why .given .1) (c .before .before .before .read-head .ensures) _)
+    (λ c. λ k h. nothing-told _ ∙ head-stmt _ _ _ _ _ (c .enum-told .given .1) (c .before .before .read-head .ensures) _)
+    (λ c. λ k h. done-told _ _ _ ∙ head-stmt _ _ _ _ _ (c .before .next .given .1) (c .before .before .before .read-head .ensures) _)
+    (λ c. λ k h. done-told _ _ _ ∙ head-stmt _ _ _ _ _ (c .before .next2 .given .1) (c .before .before .before .read-head .ensures) _)
+    (λ c. λ k h. done-told _ _ _ ∙ head-stmt _ _ _ _ _ (c .before .next3 .given .1) (c .before .before .before .read-head .ensures) _)
+    (λ c. λ k h. let f = head-told _ _ _ _ _ (c .before .before .next4 .given .1) (c .before .before .before .before .read-head .ensures) in c .read-block .ensures k (range _) (omega arith) ∙ head-stmt _ _ _ _ _ (c .before .before .next4 .given .1) (c .before .before .before .before .read-head .ensures) _)
+    (λ c. λ k h. let f = head-told _ _ _ _ _ (c .before .before .next5 .given .1) (c .before .before .before .before .read-head .ensures) in c .read-block2 .ensures k (repeat _) (omega arith) ∙ head-stmt _ _ _ _ _ (c .before .before .next5 .given .1) (c .before .before .before .before .read-head .ensures) _)
+    (λ c. λ k h. let f = head-told _ _ _ _ _ (c .before .before .next6 .given .1) (c .before .before .before .before .read-head .ensures) in c .read-ifok .ensures k (omega arith) ∙ head-stmt _ _ _ _ _ (c .before .before .next6 .given .1) (c .before .before .before .before .read-head .ensures) _)
+    (λ c. λ k h. let f = head-told _ _ _ _ _ (c .before .before .next7 .given .1) (c .before .before .before .before .read-head .ensures) in c .read-select .ensures k (omega arith) ∙ head-stmt _ _ _ _ _ (c .before .before .next7 .given .1) (c .before .before .before .before .read-head .ensures) _)
