@@ -1,13 +1,13 @@
 -- Demand 3, over the definitions that the contracts of `translate`, `check`, `start`, `turn` and `stored` cite: for any job text
 -- that the translator accepts, its image passes the check, and from a fresh start, under every list of task numbers and choices,
 -- image and text give the same event at every turn and agree after it on all that is seen.
-use mathlib.Core.Path.{_≡_, refl, sym, ap, subst, _∙_}
+use mathlib.Core.Path.{_≡_, sym, ap, subst, _∙_}
 use mathlib.Core.Bool.{true}
 use mathlib.Core.List.{List, _++_, map}
 use Prim.Native.Nat.{ℕ}
-use native.Mathlib.Omega.{arith}
+use lib.ListN.{length, take}
 use Rattle.meaning.specs.declared.Task.{Task}
-use Rattle.meaning.specs.Machine.{Turned, runs}
+use Rattle.meaning.specs.Machine.{runs}
 use Rattle.meaning.specs.Text.{Job, textLook, textStart}
 use Rattle.meaning.specs.Bytes.{bodyOf, jobImage}
 use Rattle.rows.specs.Rows.{countsOf}
@@ -17,10 +17,14 @@ use Rattle.laws.specs.Lists.{All}
 use Rattle.laws.specs.Natural.{seenTurn}
 use Rattle.reader.specs.Reading.{got, reading}
 use Rattle.accepted.specs.Accepted.{accepted-passes, accepted-same}
+use Rattle.translate.specs.declared.Translated.the-variants.{Image}
+use Rattle.translate.specs.Translated.{translated, written}
+use Rattle.translate.specs.Answered.{Holds, image-written}
 use Rattle.fit.specs.Fitting.{fitting}
 use Rattle.machine.specs.Public.{started, freshValues}
 use Rattle.machine.specs.Reached.{turns, seenTurns, reached-fits, reached-means}
 
+-- Of a text that is read as a job, with its image behind any bytes.
 module _ (text : List ℕ) (job : Job) (end rows : ℕ) (accepted : reading text ≡ got job end rows) (pre : List ℕ) where
   -- The image where it stands in its slice: behind any bytes.
   abbrev slice : List ℕ
@@ -38,3 +42,25 @@ module _ (text : List ℕ) (job : Job) (end rows : ℕ) (accepted : reading text
   -- No turn of such a run is refused by 17.
   pub never-unfit : (schedule : List (Task × ℕ)) → All (λ r. fitting (bodyOf slice) (countsOf slice) (r .state) ≡ true) (turns slice schedule (started slice .state) freshValues)
   never-unfit schedule = reached-fits slice image-passes schedule
+
+-- The same over the translation's own answer: a length n for a buffer `out`, and the first n bytes of the buffer afterwards.
+module _ (text out : List ℕ) (n : ℕ) (answer : translated text (length out) ≡ Image n) (pre : List ℕ) where
+  abbrev holds : Holds out n (reading text) (written text out)
+  holds = image-written out n text answer
+
+  abbrev translation : List ℕ
+  translation = pre ++ take n (written text out)
+
+  where-it-stands : translation ≡ pre ++ jobImage (holds .job)
+  where-it-stands = ap (λ i. pre ++ i) (holds .image)
+
+  pub translation-passes : checked translation ≡ Good
+  translation-passes = ap checked where-it-stands ∙ image-passes text (holds .job) (holds .end) (holds .rows) (holds .read) pre
+
+  pub translation-agrees : (schedule : List (Task × ℕ)) → map seenTurn (runs textLook schedule (textStart (holds .job))) ≡ map seenTurn (seenTurns translation schedule (started translation .state) freshValues)
+  translation-agrees schedule =
+      text-and-image-agree text (holds .job) (holds .end) (holds .rows) (holds .read) pre schedule
+      ∙ ap (λ bs. map seenTurn (seenTurns bs schedule (started bs .state) freshValues)) (sym where-it-stands)
+
+  pub translation-fits : (schedule : List (Task × ℕ)) → All (λ r. fitting (bodyOf translation) (countsOf translation) (r .state) ≡ true) (turns translation schedule (started translation .state) freshValues)
+  translation-fits schedule = reached-fits translation translation-passes schedule

@@ -281,7 +281,7 @@ module _ (s : List ℕ) (channels : ℕ) where
           (λ e sub. no-statement s channels sub depth w rows e)
 
 -- The statement that a head begins.
-abbrev stmtOf : List ℕ → ℕ → (ℕ → ℕ → Part Body) → ℕ → Head → Part Stmt
+abbrev pub stmtOf : List ℕ → ℕ → (ℕ → ℕ → Part Body) → ℕ → Head → Part Stmt
 stmtOf s channels sub rows (Head.Operate o next) = got (operate o) next (rows + 1)
 stmtOf s channels sub rows (Head.Close p next) = got (close p) next (rows + 1)
 stmtOf s channels sub rows (Head.Stop next) = got stop next (rows + 1)
@@ -296,7 +296,7 @@ module _ (s : List ℕ) (channels depth at rows : ℕ) where
   pub head-told : {v i : Head} → v ≡ i → HeadTold s channels depth at rows v → HeadIs s channels depth rows (wordAt s at) i
   head-told e h = rw (sym h ∙ e) at (head-is s channels (wordAt s at) depth rows)
 
-  stmt-of : (sub : ℕ → ℕ → Part Body) (i : Head) → HeadIs s channels depth rows (wordAt s at) i → stmtOf s channels sub rows i ≡ stmtBy s channels sub depth (wordAt s at) rows
+  pub stmt-of : (sub : ℕ → ℕ → Part Body) (i : Head) → HeadIs s channels depth rows (wordAt s at) i → stmtOf s channels sub rows i ≡ stmtBy s channels sub depth (wordAt s at) rows
   unfolding bind
   stmt-of sub (Head.Operate o next) (h, (e, f)) = sym (operate-read s channels sub depth (wordAt s at) rows h e ∙ rw (f (rows + 1)))
   stmt-of sub (Head.Close p next) (h, (e, f)) = sym (close-read s channels sub depth (wordAt s at) rows h e ∙ rw (f (rows + 1)))

@@ -1,1 +1,2 @@
 pub mod Translated
+pub mod Answered

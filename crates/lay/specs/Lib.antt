@@ -1,0 +1,4 @@
+-- What pass 2 leaves in the buffer, and one turn of each of its walks.
+pub mod Laid
+pub mod Told
+pub mod Turns
