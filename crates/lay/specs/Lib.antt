@@ -2,3 +2,4 @@
 pub mod Laid
 pub mod Told
 pub mod Turns
+pub mod Tasks

@@ -6,11 +6,11 @@ use Prim.Native.Nat.{ℕ, suc, _+_, _-_, _*_, _≤_, _<_}
 use Rattle.meaning.specs.declared.Row.{Row}
 use Rattle.meaning.specs.declared.Otherwise.{Otherwise}
 use Rattle.meaning.specs.declared.Statement.{Statement}
-use Rattle.meaning.specs.Numbers.{caseLimit, depthLimit, rowLimit}
+use Rattle.meaning.specs.Numbers.{caseLimit, depthLimit, rowLimit, taskLimit}
 use Rattle.meaning.specs.Text.{Stmt, select, Body, Cases}
-use Rattle.meaning.specs.Layout.{entry, caseRows, defaultRow, rowsS, rowsB, rowsC}
+use Rattle.meaning.specs.Layout.{entry, caseRows, defaultRow, rowsS, rowsB, rowsC, rowsT}
 use Rattle.words.specs.Words.{wordAt}
-use Rattle.reader.specs.Reading.{got, bind, closed, secondBy, lastBy, casesFrom, stmtBy, bodyFrom}
+use Rattle.reader.specs.Reading.{got, bind, closed, secondBy, lastBy, casesFrom, stmtBy, bodyFrom, tasksFrom}
 use Rattle.lay.specs.Laid.{laid}
 
 -- Rows stay numbers of two bytes: each select around a part moves it behind case rows that the reader has not counted yet.
@@ -52,3 +52,6 @@ module _ (s : List ℕ) (channels depth at rows : ℕ) where
 
   abbrev pub StmtLaid : ℕ → ℕ → List ℕ → List ℕ → Type 0
   StmtLaid i j out new = (k : ℕ) (x : Stmt) (a r : ℕ) → rowLimit ≤ k + rows → stmtBy s channels (bodyFrom k s channels (depth + 1)) depth (wordAt s at) rows ≡ got x a r → new ≡ laid out i (rowsS x depth i j)
+
+abbrev pub TasksLaid : List ℕ → ℕ → ℕ → ℕ → List ℕ → List ℕ → Type 0
+TasksLaid s channels at rows out new = (bs : List Body) (a r : ℕ) → tasksFrom s channels taskLimit at rows ≡ got bs a r → new ≡ laid out rows (rowsT bs rows)

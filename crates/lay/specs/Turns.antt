@@ -76,11 +76,11 @@ closed-got s x at rows {y} {a} {r} e = go (eqb (wordAt s at .kind) endKind) (eqb
     go false false e = absurd (bad-got e)
 
 -- The way of a choice that gives a part.
-way-first : {A : Type 0} (b : Bool) (f g : ℕ → Part A) (rows : ℕ) {y : A} {a r : ℕ} → cond b f g rows ≡ got y a r → (g rows ≡ got y a r → ⊥) → f rows ≡ got y a r
+pub way-first : {A : Type 0} (b : Bool) (f g : ℕ → Part A) (rows : ℕ) {y : A} {a r : ℕ} → cond b f g rows ≡ got y a r → (g rows ≡ got y a r → ⊥) → f rows ≡ got y a r
 way-first true f g rows e h = e
 way-first false f g rows e h = absurd (h e)
 
-way-second : {A : Type 0} (b : Bool) (f g : ℕ → Part A) (rows : ℕ) {y : A} {a r : ℕ} → cond b f g rows ≡ got y a r → (f rows ≡ got y a r → ⊥) → g rows ≡ got y a r
+pub way-second : {A : Type 0} (b : Bool) (f g : ℕ → Part A) (rows : ℕ) {y : A} {a r : ℕ} → cond b f g rows ≡ got y a r → (f rows ≡ got y a r → ⊥) → g rows ≡ got y a r
 way-second true f g rows e h = absurd (h e)
 way-second false f g rows e h = e
 

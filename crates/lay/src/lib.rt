@@ -2,4 +2,5 @@
 // pass 1 for every size and place, so that it keeps nothing but the numbers of rows. No refusal is decided here.
 pub mod cases;
 pub mod firsts;
+pub mod jobs;
 pub mod statements;
