@@ -2,11 +2,11 @@
 use mathlib.Core.Path.{_≡_, refl, sym, ap, _∙_}
 use mathlib.Core.Bool.{Bool, true, false, cond}
 use mathlib.Core.List.{List, [], _∷_, _++_}
-use Prim.Native.Nat.{ℕ, zero, suc, _+_, _*_}
+use Prim.Native.Nat.{ℕ, zero, suc, _+_, _*_, _≤_}
 use native.Mathlib.Omega.{arith}
 use native.Mathlib.Nat.{add-zero}
 use lib.Dec.{leb}
-use lib.ListN.{length}
+use lib.ListN.{length, set}
 use lib.Seq.{sets, length-sets}
 use Rattle.meaning.specs.declared.Row.{Row}
 use Rattle.meaning.specs.declared.Statement.{Statement}
@@ -49,3 +49,9 @@ pub length-laid : (xs : List Statement) (out : List ℕ) (i : ℕ) → length (l
 unfolding laid
 length-laid [] out i = refl
 length-laid (x ∷ xs) out i = length-laid xs (rowPut out (rowNo i) x) (suc i) ∙ length-put out (rowNo i) x
+
+-- A byte behind the buffer's end changes nothing.
+pub set-past : (l : List ℕ) (i b : ℕ) → length l ≤ i → l ≡ set l i b
+set-past [] i b h = refl
+set-past (x ∷ l) zero b h = absurd (omega arith)
+set-past (x ∷ l) (suc i) b h = ap (x ∷_) (set-past l i b (omega arith))

@@ -11,7 +11,9 @@ use Rattle.meaning.specs.declared.Statement.the-variants.{Stop}
 use Rattle.meaning.specs.Numbers.{rowLimit, wordOutOfPlace, cutShort}
 use Rattle.meaning.specs.Text.{Body}
 use Rattle.meaning.specs.Image.{rowNo}
-use Rattle.meaning.specs.Layout.{sizeB, rowsB, rowsT}
+use Rattle.meaning.specs.Layout.{sizeB, rowsB, rowsT, firstRows}
+use Rattle.meaning.specs.Bytes.{two, firstBytes}
+use lib.Seq.{sets}
 use Rattle.rows.specs.Rows.{rowPut}
 use Rattle.layout.specs.Laid.{rowsB-length}
 use Rattle.words.specs.declared.Word.{Word}
@@ -132,3 +134,15 @@ turn-tasks {rows = rows} {n = n} t out e f =
 pub tasks-nil : (out : List ℕ) (i : ℕ) {bs : List Body} → bs ≡ [] → out ≡ laid out i (rowsT bs i)
 unfolding rowsT
 tasks-nil out i e = rw e (sym (laid-nil out i))
+
+-- A task's first row is stored: what is left is those of the other tasks.
+pub turn-firsts : {s : List ℕ} {channels left : ℕ} {w : Word} {rows a′ n : ℕ} {bs : List Body} {a r : ℕ} (t : TaskTurn s channels left w rows a′ n bs a r) (out : List ℕ) (i : ℕ) {new : List ℕ}
+    → new ≡ sets out i (two rows) → sets new (i + 2) (firstBytes (firstRows (t .rest) n)) ≡ sets out i (firstBytes (firstRows bs rows))
+unfolding firstRows firstBytes
+turn-firsts {n = n} t out i e =
+    let p : i + 2 ≡ suc (suc i) = omega arith in
+    rw (e, t .whole, t .size, p)
+
+pub firsts-nil : (out : List ℕ) (i rows : ℕ) {bs : List Body} → bs ≡ [] → out ≡ sets out i (firstBytes (firstRows bs rows))
+unfolding firstRows firstBytes
+firsts-nil out i rows e = rw e

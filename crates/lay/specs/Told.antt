@@ -3,12 +3,14 @@
 use mathlib.Core.Path.{_≡_}
 use mathlib.Core.List.{List, _∷_}
 use Prim.Native.Nat.{ℕ, suc, _+_, _-_, _*_, _≤_, _<_}
+use lib.Seq.{sets}
 use Rattle.meaning.specs.declared.Row.{Row}
 use Rattle.meaning.specs.declared.Otherwise.{Otherwise}
 use Rattle.meaning.specs.declared.Statement.{Statement}
 use Rattle.meaning.specs.Numbers.{caseLimit, depthLimit, rowLimit, taskLimit}
 use Rattle.meaning.specs.Text.{Stmt, select, Body, Cases}
-use Rattle.meaning.specs.Layout.{entry, caseRows, defaultRow, rowsS, rowsB, rowsC, rowsT}
+use Rattle.meaning.specs.Layout.{entry, caseRows, defaultRow, rowsS, rowsB, rowsC, rowsT, firstRows}
+use Rattle.meaning.specs.Bytes.{firstBytes}
 use Rattle.words.specs.Words.{wordAt}
 use Rattle.reader.specs.Reading.{got, bind, closed, secondBy, lastBy, casesFrom, stmtBy, bodyFrom, tasksFrom}
 use Rattle.lay.specs.Laid.{laid}
@@ -55,3 +57,6 @@ module _ (s : List ℕ) (channels depth at rows : ℕ) where
 
 abbrev pub TasksLaid : List ℕ → ℕ → ℕ → ℕ → List ℕ → List ℕ → Type 0
 TasksLaid s channels at rows out new = (bs : List Body) (a r : ℕ) → tasksFrom s channels taskLimit at rows ≡ got bs a r → new ≡ laid out rows (rowsT bs rows)
+
+abbrev pub FirstsLaid : List ℕ → ℕ → ℕ → ℕ → ℕ → List ℕ → List ℕ → Type 0
+FirstsLaid s channels at rows base out new = (bs : List Body) (a r : ℕ) → tasksFrom s channels taskLimit at rows ≡ got bs a r → new ≡ sets out base (firstBytes (firstRows bs rows))

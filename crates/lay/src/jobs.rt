@@ -1,7 +1,8 @@
 // The rows of all tasks, one behind the other, each closed by its stop row.
 ghost use Prim.Native.Nat.{_≤_};
 ghost use Rattle.meaning.specs.Numbers.{rowLimit};
-ghost use Rattle.lay.specs.Told.{TasksLaid};
+ghost use Rattle.lay.specs.Told.{TasksLaid, FirstsLaid};
+use crate::bytes::put_two;
 use crate::statements::lay_body;
 use meaning::Row;
 use meaning::Statement;
@@ -32,5 +33,27 @@ pub fn lay_tasks(text: &[u8], channels: u8, from: usize, before: u16, out: &mut 
         at = behind;
         rows = so_far;
         n = n + 1;
+    }
+}
+
+// The first row of each task from a place on, two bytes each, from byte base on.
+pub fn lay_firsts(text: &[u8], channels: u8, from: usize, before: u16, base: usize, out: &mut [u8])
+    requires { ⌜ (before ≤ rowLimit) × (base ≤ 65000) ⌝ }
+    ensures { λ _. ⌜ FirstsLaid (now (text .entry)) channels from before base (now (out .entry)) (now (out .exit)) ⌝ }
+{
+    let mut at = from;
+    let mut rows = before;
+    let mut n: u8 = 0;
+    let mut i = base;
+    loop {
+        let r = read_task(text, channels, at, rows, TASK_LIMIT - n);
+        let Read::Done(behind, so_far) = r else {
+            return;
+        };
+        put_two(out, i, rows);
+        at = behind;
+        rows = so_far;
+        n = n + 1;
+        i = i + 2;
     }
 }
