@@ -1,7 +1,7 @@
 -- Demand 3, over the definitions that the contracts of `translate`, `check`, `start`, `turn` and `stored` cite: for any job text
 -- that the translator accepts, its image passes the check, and from a fresh start, under every list of task numbers and choices,
 -- image and text give the same event at every turn and agree after it on all that is seen.
-use mathlib.Core.Path.{_≡_, sym, ap, subst, _∙_}
+use mathlib.Core.Path.{_≡_, sym, ap, _∙_}
 use mathlib.Core.Bool.{true}
 use mathlib.Core.List.{List, _++_, map}
 use Prim.Native.Nat.{ℕ}

@@ -1,16 +1,15 @@
 -- Document 01, 'What the bench has seen go wrong': none of the four can occur, in a text or in an image, at any turn.
-use mathlib.Core.Path.{_≡_, refl, sym, ap, subst, _∙_}
-use mathlib.Core.Bool.{false, true}
-use mathlib.Core.Option.{some}
+use mathlib.Core.Path.{_≡_, refl, ap, subst, _∙_}
+use mathlib.Core.Bool.{false}
 use mathlib.Core.List.{List, [], _∷_, map}
 use Prim.Native.Nat.{ℕ, zero, suc}
-use lib.ListN.{getD, set, getElem?}
+use lib.ListN.{getD, set}
 use Rattle.meaning.specs.declared.Task.{Task}
 use Rattle.meaning.specs.declared.Chan.{Chan}
 use Rattle.meaning.specs.declared.Status.the-variants.{Able}
 use Rattle.meaning.specs.declared.Event.{Event}
 use Rattle.meaning.specs.declared.Event.the-variants.{Appended, Handed, Taken, Refilled, Received, Drained, Closed, Waits, Branched, Finished, Faulted, Refused}
-use Rattle.meaning.specs.Machine.{Look, Standing, Channel, Machine, Turned, Waiter, channelAt, shut, moved, store, wakeAll, turn}
+use Rattle.meaning.specs.Machine.{Look, Standing, Channel, Machine, Turned, channelAt, shut, moved, store, turn}
 use Rattle.meaning.specs.Text.{Body, repeat, Remainder, todo, textLook, textItem, textStmt, textRepeat}
 use Rattle.laws.specs.Outcome.{Move, faults, hands, appends, refills, takes, receives, drains, wakes, shuts, waits, goes-on, finishes, Outcome, refuses, moves, outcome}
 use Rattle.laws.specs.Fits.{Fits}

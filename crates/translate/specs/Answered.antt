@@ -1,6 +1,6 @@
 -- What an answer of the translation says: an image's length only for a text that is read as a job, whose image then stands at the
 -- buffer's start with the later bytes untouched; and a refusal only with the whole buffer untouched.
-use mathlib.Core.Path.{_≡_, refl, sym, ap, subst, _∙_}
+use mathlib.Core.Path.{_≡_, refl, sym, ap, _∙_}
 use mathlib.Core.Bool.{Bool, true, false, cond}
 use mathlib.Core.List.{List, _++_}
 use Prim.Native.Nat.{ℕ}
@@ -12,7 +12,6 @@ use Rattle.meaning.specs.Numbers.{bufferTooShort}
 use Rattle.meaning.specs.Text.{Job}
 use Rattle.meaning.specs.Bytes.{jobImage}
 use Rattle.reader.specs.Reading.{Part, got, none, bad, reading}
-use Rattle.translate.specs.declared.Translated.{Translated}
 use Rattle.translate.specs.declared.Translated.the-variants.{Image, Refused}
 use Rattle.translate.specs.Translated.{translatedTo, translated, writtenTo, written}
 
