@@ -155,12 +155,12 @@ firsts-there rs rows channels i (x ∷ xs) post h e =
     ap₂ _∷_ (ap rowNo (ap₂ word (first-there rs at these e) (byte-there rs at 1 these e) ∙ two-back (x .0) (h .0)))
     (firsts-there rs rows channels (suc i) xs post (h .1) (further rs at 2 (rowSize * rows + channels + 2 * suc i) (two (x .0)) (firstBytes xs ++ post) refl (omega arith) e))
 
-rowBytes-length : (xs : List Statement) → length (rowBytes xs) ≡ rowSize * length xs
+pub rowBytes-length : (xs : List Statement) → length (rowBytes xs) ≡ rowSize * length xs
 unfolding rowBytes
 rowBytes-length [] = refl
 rowBytes-length (x ∷ xs) = omega (arith, rowBytes-length xs)
 
-firstBytes-length : (xs : List Row) → length (firstBytes xs) ≡ 2 * length xs
+pub firstBytes-length : (xs : List Row) → length (firstBytes xs) ≡ 2 * length xs
 unfolding firstBytes
 firstBytes-length [] = refl
 firstBytes-length (x ∷ xs) = omega (arith, firstBytes-length xs)
