@@ -1,9 +1,12 @@
-/* Instructions of one turn: each function below is one kind of turn, made N times from one state by the library. */
+/* Instructions of one turn, one image check and one translation: each kind below is made N times by the library. */
 #include <stddef.h>
 #include "images.h"
+#include "texts.h"
 #ifndef N
 #define N 1
 #endif
+size_t bench_translate(const uint8_t *text, size_t n, uint8_t *image, size_t image_n);
+uint8_t bench_check(const uint8_t *image, size_t n);
 uint16_t bench_rounds(const uint8_t *image, size_t n, const uint8_t *pairs, size_t pairs_n, _Bool whole, uint8_t task, uint8_t choice, uint32_t rounds);
 
 /* An image of 1,024 rows: a send, stops, and a second task. */
@@ -34,9 +37,15 @@ int bench(void) {
     ROUNDS(close15, all_wait, 30, 0, 15); /* a close that wakes 15 */
 #elif KIND == 4
     ROUNDS(pass, none, 0, 1, 0);          /* the send as a whole turn: image check of 4 rows, fit, step */
-#else
+#elif KIND == 5
     make_long();
     ROUNDS(long_image, none, 0, 1, 0);    /* the send as a whole turn on an image of 1,024 rows */
+#elif KIND == 6
+    make_long();                          /* the image check of 1,024 rows */
+    for (int i = 0; i < N; i++) if (bench_check(long_image, sizeof long_image)) return 1;
+#else
+    make_text(KIND == 7 ? 0 : 6);         /* a text of 16,384 bytes translated, at depth 0 and at depth 6 */
+    for (int i = 0; i < N; i++) if (!bench_translate(text, sizeof text, image_out, sizeof image_out)) return 1;
 #endif
     return 0;
 }

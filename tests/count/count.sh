@@ -1,5 +1,5 @@
 #!/bin/sh
-# Exact x86-64 instructions of one turn, by kind of turn: a run of N rounds and one of 2N, and their difference divided by N, so
+# Exact x86-64 instructions of one turn by its kind, one image check and one translation: a run of N rounds and one of 2N, and their difference divided by N, so
 # that everything but the rounds falls out. The compiler is the kit's (or CC=..), the program is static and freestanding, and an
 # emulator counts: the kit's on Arm, else Debian's qemu-user. A benchmark and no test.
 set -eu
@@ -35,3 +35,6 @@ kind 3 'close that wakes 15'
 kind 4 'send as a whole turn, image of 4 rows'
 N=2; n=2
 kind 5 'send as a whole turn, image of 1,024 rows'
+kind 6 'check of an image of 1,024 rows'
+kind 7 'translation of 16,384 bytes, depth 0'
+kind 8 'translation of 16,384 bytes, depth 6'

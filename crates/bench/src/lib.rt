@@ -14,6 +14,8 @@ use rows::bytes::trailer_of;
 use state::State;
 use step::step;
 
+pub mod translation;
+
 fn step_rounds(
     body: &[u8],
     rows: u16,

@@ -1,0 +1,14 @@
+-- What the benchmark keeps of a translation and of an image check.
+use Prim.Native.Nat.{ℕ}
+use Rattle.image.specs.declared.Checked.{Checked}
+use Rattle.image.specs.declared.Checked.the-variants as check-answers
+use Rattle.translate.specs.declared.Translated.{Translated}
+use Rattle.translate.specs.declared.Translated.the-variants as translations
+
+abbrev pub lengthOf : Translated → ℕ
+lengthOf (translations.Image n) = n
+lengthOf (translations.Refused number place) = 0
+
+abbrev pub numberOf : Checked → ℕ
+numberOf check-answers.Good = 0
+numberOf (check-answers.Refused number place) = number

@@ -1,0 +1,19 @@
+/* A text of 16,384 bytes, blanks to its end: a channel and one task of 1,015 sends, 16 bytes each, inside so many blocks of one
+   lap each. */
+#include <stddef.h>
+#include <stdint.h>
+#define TEXT_SIZE 16384
+static uint8_t text[TEXT_SIZE], image_out[8 * 1024 + 16 + 32 + 8];
+static uint8_t *put(uint8_t *p, const char *s) {
+    while (*s) *p++ = (uint8_t)*s++;
+    return p;
+}
+static void make_text(int depth) {
+    uint8_t *p = text;
+    for (size_t i = 0; i < TEXT_SIZE; i++) text[i] = ' ';
+    p = put(p, "chan 1 task ");
+    for (int i = 0; i < depth; i++) p = put(p, "repeat 1 ");
+    for (int i = 0; i < 1015; i++) p = put(p, "send 0 12345\n") + 3;
+    for (int i = 0; i < depth; i++) p = put(p, "end ");
+    put(p, "end");
+}
