@@ -44,7 +44,7 @@ int bench(void) {
     make_long();                          /* the image check of 1,024 rows */
     for (int i = 0; i < N; i++) if (bench_check(long_image, sizeof long_image)) return 1;
 #else
-    make_text(KIND == 7 ? 0 : 6);         /* a text of 16,384 bytes translated, at depth 0 and at depth 6 */
+    make_text(KIND == 7 ? 0 : 6, KIND == 8 ? "repeat 1 " : "select case recv 0 "); /* a text of 16,384 bytes translated, at depth 0 and at depth 6 */
     for (int i = 0; i < N; i++) if (!bench_translate(text, sizeof text, image_out, sizeof image_out)) return 1;
 #endif
     return 0;

@@ -1,6 +1,6 @@
 #!/bin/sh
-# Exact x86-64 instructions of one turn by its kind, one image check and one translation: a run of N rounds and one of 2N, and their difference divided by N, so
-# that everything but the rounds falls out. The compiler is the kit's (or CC=..), the program is static and freestanding, and an
+# Exact x86-64 instructions of one turn by its kind, one image check and one translation: a run of N rounds and one of 2N, and their
+# difference divided by N, so that everything but the rounds falls out. The compiler is the kit's (or CC=..), the program is static and freestanding, and an
 # emulator counts: the kit's on Arm, else Debian's qemu-user. A benchmark and no test.
 set -eu
 cd "$(dirname "$0")/../.."
@@ -37,4 +37,5 @@ N=2; n=2
 kind 5 'send as a whole turn, image of 1,024 rows'
 kind 6 'check of an image of 1,024 rows'
 kind 7 'translation of 16,384 bytes, depth 0'
-kind 8 'translation of 16,384 bytes, depth 6'
+kind 8 'translation of 16,384 bytes, six repeats deep'
+kind 9 'translation of 16,384 bytes, six selects deep'

@@ -4,7 +4,8 @@
 use mathlib.Core.Path.{_≡_, refl}
 use mathlib.Core.List.{List, [], _∷_, map}
 use Prim.Native.Nat.{ℕ}
-use lib.ListN.{length}
+use native.Mathlib.Omega.{arith}
+use lib.ListN.{length, getD}
 use Rattle.meaning.specs.declared.Task.{Task}
 use Rattle.meaning.specs.Events.{Numbers, event, numbers}
 use Rattle.meaning.specs.Machine.{Turned, isOn, receivesOn, sendsOn, payload, without, wakeAll, sendOn, receiveOn, closeOn, choose, casesOf, firstCase, waiterBy, addIf, waiterAt, waitersIn, waiters, sendTo, receiveFrom, attempt, ready, act, turnAs, turnOf, turnIf, runs, fresh}
@@ -22,7 +23,7 @@ use Rattle.words.specs.Words.{wordAt, firstNotAllowed, kindOf, valueOf, startAt
 use Rattle.reader.specs.Reading.{Part, got, none, bad, bind, numberBy, closedBy, portBy, opBy, secondBy, caseOp, caseBy, lastBy, casesFrom, stmtBy, bodyFrom, chanBy, chansFrom, taskEnd, taskBy, tasksFrom, job, reading}
 use Rattle.translate.specs.declared.Translated.{Translated}
 use Rattle.translate.specs.declared.Translated.the-variants.{Image, Refused}
-use Rattle.translate.specs.Translated.{translatedTo, translated}
+use Rattle.translate.specs.Translated.{translatedTo, translated, writtenTo, written}
 
 -- A text, the buffer's length, the translation's answer, a schedule of tasks and choices, and the events of its turns.
 record Example : Type 0 where
@@ -136,3 +137,11 @@ due e = record { answer = e .answer; check = Good; ofText = e .events; ofImage =
 table-holds : map found table ≡ map due table
 unfolding found foundBy due translated translatedTo reading job tasksFrom taskBy taskEnd chansFrom chanBy bodyFrom stmtBy casesFrom lastBy caseBy caseOp secondBy opBy portBy closedBy numberBy bind wordAt firstNotAllowed kindOf valueOf startAt nextAt bytesAt numeral decimal isNumber onlyDigits leadingZero placeOf differs sameWord reserved run inWord isAllowed isLetter isDigit isBlank numbers isOn receivesOn sendsOn payload without wakeAll sendOn receiveOn closeOn choose casesOf firstCase waiterBy addIf waiterAt waitersIn waiters sendTo receiveFrom attempt ready m.close act turnAs turnOf turnIf m.turn runs fresh enter textRepeat textCases textDefault textStmt textItem textLook textStart imageCase imageCases imageDefault imageRepeat imageStatement imageLook imageStart caseCount sizeB entry caseRows defaultRow rowsB rowsT firstRows fieldsOf statementOf rowBytes firstBytes imageBytes jobImage trailerOf rowCount channelCount taskCount distance bodyOf fieldsOfRow rowsIn capacityIn firstRowIn rowsOf capacitiesOf firstRowsOf b.listed startOf checked bodyChecked countsGood refusedAt firstOf rowBad rowGood statementGood firstRowBad capacityBad casesFollow otherwiseGood isTarget isCaseRow opGood portGood owedAt owedAfter inTable countsOf countsIn markOf versionOf
 table-holds = refl
+
+-- A translator that writes one fixed image is none: the images of P7 and P8 are of one length, and differ in their first byte.
+abbrev firstByte : List ℕ → ℕ
+firstByte text = getD (written text (0 ∷ 0 ∷ 0 ∷ 0 ∷ 0 ∷ 0 ∷ 0 ∷ 0 ∷ 0 ∷ 0 ∷ 0 ∷ 0 ∷ 0 ∷ 0 ∷ 0 ∷ 0 ∷ 0 ∷ 0 ∷ 0 ∷ 0 ∷ 0 ∷ 0 ∷ 0 ∷ 0 ∷ 0 ∷ 0 ∷ [])) 0 0
+
+no-fixed-image : firstByte (116 ∷ 97 ∷ 115 ∷ 107 ∷ 32 ∷ 114 ∷ 101 ∷ 99 ∷ 118 ∷ 32 ∷ 110 ∷ 105 ∷ 108 ∷ 32 ∷ 101 ∷ 110 ∷ 100 ∷ []) ≡ firstByte (116 ∷ 97 ∷ 115 ∷ 107 ∷ 32 ∷ 99 ∷ 108 ∷ 111 ∷ 115 ∷ 101 ∷ 32 ∷ 110 ∷ 105 ∷ 108 ∷ 32 ∷ 101 ∷ 110 ∷ 100 ∷ []) → ⊥
+unfolding written writtenTo reading job tasksFrom taskBy taskEnd chansFrom chanBy bodyFrom stmtBy casesFrom lastBy caseBy caseOp secondBy opBy portBy closedBy numberBy bind wordAt firstNotAllowed kindOf valueOf startAt nextAt bytesAt numeral decimal isNumber onlyDigits leadingZero placeOf differs sameWord reserved run inWord isAllowed isLetter isDigit isBlank caseCount sizeB entry caseRows defaultRow rowsB rowsT firstRows fieldsOf rowBytes firstBytes imageBytes jobImage
+no-fixed-image e = let z : _≡_ {A = ℕ} 3 4 = e in omega arith

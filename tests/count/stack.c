@@ -1,0 +1,51 @@
+/* Bytes of stack of one translation, one image check and one turn: each is called on a painted stack of its own, and what is no
+   longer paint is counted, less what a call that does nothing needs. */
+#include "images.h"
+#include "texts.h"
+#define AREA 65536
+#define PAINT 0xA5
+size_t bench_translate(const uint8_t *text, size_t n, uint8_t *image, size_t image_n);
+uint8_t bench_check(const uint8_t *image, size_t n);
+uint16_t bench_rounds(const uint8_t *image, size_t n, const uint8_t *pairs, size_t pairs_n, _Bool whole, uint8_t task, uint8_t choice, uint32_t rounds);
+static const uint8_t none[1];
+
+static void nothing(void) { __asm__ volatile(""); }
+static void translation(void) { bench_translate(text, sizeof text, image_out, sizeof image_out); }
+static void image_check(void) { bench_check(pass, sizeof pass); }
+static void whole_turn(void) { bench_rounds(pass, sizeof pass, none, 0, 1, 0, 0, 1); }
+
+static void write_out(const char *s, size_t n) {
+    long r = 1;
+    __asm__ volatile("syscall" : "+a"(r) : "D"(1L), "S"(s), "d"(n) : "rcx", "r11", "memory");
+}
+static void say(const char *name, size_t n) {
+    char line[80], digits[20];
+    size_t k = 0, d = 0;
+    for (; name[k]; k++) line[k] = name[k];
+    do digits[d++] = (char)('0' + n % 10); while (n /= 10);
+    while (d) line[k++] = digits[--d];
+    line[k++] = '\n';
+    write_out(line, k);
+}
+static size_t used(void (*f)(void)) {
+    static uint8_t area[AREA] __attribute__((aligned(16)));
+    for (size_t i = 0; i < AREA; i++) area[i] = PAINT;
+    __asm__ volatile("mov %%rsp, %%rbx\n mov %1, %%rsp\n call *%0\n mov %%rbx, %%rsp"
+                     : "+a"(f) : "c"(area + AREA) : "rbx", "rdx", "rsi", "rdi", "r8", "r9", "r10", "r11", "r12", "r13", "r14", "r15", "memory", "cc",
+                       "xmm0", "xmm1", "xmm2", "xmm3", "xmm4", "xmm5", "xmm6", "xmm7", "xmm8", "xmm9", "xmm10", "xmm11", "xmm12", "xmm13", "xmm14", "xmm15");
+    size_t i = 0;
+    while (i < AREA && area[i] == PAINT) i++;
+    return AREA - i;
+}
+int bench(void) {
+    size_t base = used(nothing);
+    make_text(0, "");
+    say("translation of 16,384 bytes, depth 0: ", used(translation) - base);
+    make_text(6, "repeat 1 ");
+    say("translation of 16,384 bytes, six repeats deep: ", used(translation) - base);
+    make_text(6, "select case recv 0 ");
+    say("translation of 16,384 bytes, six selects deep: ", used(translation) - base);
+    say("image check: ", used(image_check) - base);
+    say("start and whole turn: ", used(whole_turn) - base);
+    return 0;
+}
