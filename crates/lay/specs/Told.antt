@@ -19,13 +19,15 @@ use Rattle.lay.specs.Laid.{laid}
 abbrev pub Within : ℕ → ℕ → ℕ → Type 0
 Within depth rows i = (depth ≤ depthLimit) × (rows ≤ rowLimit) × (i ≤ rows + 256 * depth)
 
-module _ (s : List ℕ) (channels depth at rows : ℕ) where
+-- What a field names, by the first word at the place: the same for any depth and rows at which a body is read there.
+module _ (s : List ℕ) (at : ℕ) where
   abbrev pub FirstTold : ℕ → ℕ → Row → Type 0
-  FirstTold i j v = (k : ℕ) (b : Body) (a r : ℕ) → rowLimit - rows < k → bodyFrom k s channels depth at rows ≡ got b a r → v ≡ entry b i j
+  FirstTold i j v = (k channels depth rows : ℕ) (b : Body) (a r : ℕ) → bodyFrom k s channels depth at rows ≡ got b a r → v ≡ entry b i j
 
   abbrev pub OtherwiseTold : ℕ → ℕ → Otherwise → Type 0
-  OtherwiseTold i j v = (k : ℕ) (cs : Cases) (a r : ℕ) → rowLimit - rows < k → lastBy s channels (bodyFrom k s channels depth) at (wordAt s at) rows ≡ got cs a r → v ≡ defaultRow cs i j
+  OtherwiseTold i j v = (k channels depth rows : ℕ) (cs : Cases) (a r : ℕ) → lastBy s channels (bodyFrom k s channels depth) at (wordAt s at) rows ≡ got cs a r → v ≡ defaultRow cs i j
 
+module _ (s : List ℕ) (channels depth at rows : ℕ) where
   abbrev pub BodyLaid : ℕ → ℕ → List ℕ → List ℕ → Type 0
   BodyLaid i j out new = (k : ℕ) (b : Body) (a r : ℕ) → rowLimit - rows < k → bodyFrom k s channels depth at rows ≡ got b a r → new ≡ laid out i (rowsB b depth i j)
 

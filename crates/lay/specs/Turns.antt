@@ -27,14 +27,15 @@ use Rattle.reader.specs.declared.Counted.{Counted}
 use Rattle.reader.specs.declared.OpRead.{OpRead}
 use Rattle.reader.specs.declared.Head.{Head}
 use Rattle.reader.specs.Reading.{Part, got, none, bad, bind, misplaced, closedBy, closed, opBy, secondBy, orMisplaced, caseOp, caseBy, lastBy, casesBy, casesFrom, stmtBy, bodyBy, bodyFrom}
-use Rattle.reader.specs.Answers.{told, counted, self, countBy, countFrom, opPart, OpTold, StmtTold, BodyTold, CaseTold, CasesTold, HeadTold}
+use Rattle.reader.specs.Answers.{isStatement, told, counted, self, countBy, countFrom, opPart, OpTold, StmtTold, BodyTold, CaseTold, CasesTold, HeadTold}
 use Rattle.reader.specs.PartLaws.{told-got, Stops, All, bind-all, ways-all, row-all}
 use Rattle.reader.specs.HeadLaws as heads
-use Rattle.reader.specs.HeadLaws.{stmtOf, head-told, stmt-of}
+use Rattle.reader.specs.HeadLaws.{stmtOf, head-told, stmt-of, no-statement}
 use Rattle.reader.specs.SizeLaws.{SizedS, SizedB, SizedC, stmt-sized, body-sized, cases-sized, case-op}
 use Rattle.reader.specs.SelectLaws.{behindCases, cases-split}
 use Rattle.reader.specs.BodyLaws.{case-grows}
 use Rattle.accepted.specs.Kept.{Kept, Anywhere, BodyRead, StmtRead}
+use Rattle.accepted.specs.Decided.{Sure, body-sure, statement-sure}
 use Rattle.accepted.specs.Walk.{body-kept, statement-kept}
 use Rattle.accepted.specs.Steps.{body-read, statement-read}
 use Rattle.lay.specs.Laid.{laid, laid-append, laid-cons, laid-nil, laid-one}
@@ -136,6 +137,30 @@ module _ (s : List ℕ) (channels depth at rows : ℕ) where
   unfolding bodyFrom
   no-turn q h zero l e = absurd (omega arith)
   no-turn q h (suc k) l e = by-none (bodyFrom k s channels depth) (stmtBy s channels (bodyFrom k s channels (depth + 1)) depth (wordAt s at) rows) (rw (h k (omega arith)) at q) e
+
+-- WHERE A BODY BEGINS
+
+entry-by : (rest : ℕ → ℕ → Part Body) (at rows i j : ℕ) (p : Part Stmt) {b : Body} {a r : ℕ} → Sure p → bodyBy rest at rows p ≡ got b a r → rowNo i ≡ entry b i j
+unfolding entry
+entry-by rest at rows i j (got x a′ r′) {b} h e = let g = bind-got (rest a′ r′) (λ b a r. got (x ▸ b) a r) e in rw (sym (same-got (g .4) .0))
+entry-by rest at rows i j none h e = absurd h
+entry-by rest at rows i j (bad n place) h e = absurd (bad-got e)
+
+module _ (s : List ℕ) (at : ℕ) where
+  pub entry-there : (i j : ℕ) {w : Word} → w ≡ wordAt s at → isStatement (w .kind) ≡ true → FirstTold s at i j (rowNo i)
+  unfolding bodyFrom
+  entry-there i j q t zero channels depth rows b a r e = absurd (bad-got e)
+  entry-there i j q t (suc k) channels depth rows b a r e =
+      let f : isStatement (wordAt s at .kind) ≡ true = rw q at t in
+      entry-by (bodyFrom k s channels depth) at rows i j (stmtBy s channels (bodyFrom k s channels (depth + 1)) depth (wordAt s at) rows)
+      (statement-sure s channels (bodyFrom k s channels (depth + 1)) (λ a r. body-sure s k channels (depth + 1) a r) depth (wordAt s at) rows f) e
+
+  pub entry-behind : (i j : ℕ) {w : Word} → w ≡ wordAt s at → isStatement (w .kind) ≡ false → FirstTold s at i j (rowNo j)
+  unfolding bodyFrom entry
+  entry-behind i j q t zero channels depth rows b a r e = absurd (bad-got e)
+  entry-behind i j q t (suc k) channels depth rows b a r e =
+      let f : isStatement (wordAt s at .kind) ≡ false = rw q at t in
+      rw (← same-got (rw (no-statement s channels (bodyFrom k s channels (depth + 1)) depth (wordAt s at) rows f) at e) .0)
 
 -- WHAT STANDS BEHIND CASES
 
@@ -314,12 +339,12 @@ then-laid out d i j x b =
 
 -- A statement is laid: what is left is the rest of the body.
 pub turn-laid : {s : List ℕ} {channels depth at rows a′ n : ℕ} {b : Body} {a r : ℕ} (w : Turn s channels depth at rows a′ n b a r) (out : List ℕ) (i j : ℕ) (next : Row) {new : List ℕ}
-    → FirstTold s channels depth a′ n (i + (n - rows)) j next → new ≡ laid out i (rowsS (w .one) depth i (next .0))
+    → FirstTold s a′ (i + (n - rows)) j next → new ≡ laid out i (rowsS (w .one) depth i (next .0))
     → laid new (i + (n - rows)) (rowsB (w .rest) depth (i + (n - rows)) j) ≡ laid out i (rowsB b depth i j)
-turn-laid {depth = depth} {rows = rows} {n = n} {a = a} {r} w out i j next f e =
+turn-laid {channels = channels} {depth} {rows = rows} {n = n} {a = a} {r} w out i j next f e =
     let q = w .size in
     let p : i + (n - rows) ≡ i + sizeS (w .one) = omega arith in
-    rw (e, f (w .steps) (w .rest) a r (w .enough′) (w .rest-is), p, w .whole) (then-laid out depth i j (w .one) (w .rest))
+    rw (e, f (w .steps) channels depth n (w .rest) a r (w .rest-is), p, w .whole) (then-laid out depth i j (w .one) (w .rest))
 
 pub body-done : (out : List ℕ) (d i j : ℕ) {b : Body} → b ≡ empty → out ≡ laid out i (rowsB b d i j)
 unfolding rowsS
@@ -332,13 +357,13 @@ unfolding caseRows
 case-laid out line i j o b cs = laid-cons (Case o (entry b i j)) (caseRows cs (i + sizeB b) j) out line
 
 pub row-laid : {k : ℕ} {s : List ℕ} {channels depth left at rows a′ n : ℕ} {o : Op} {next : ℕ} {cs : Cases} {a r : ℕ} (w : CaseTurn k s channels depth left at rows a′ n o next cs a r) (out : List ℕ) (line i j : ℕ) (first : Row) {new : List ℕ}
-    → rowLimit - (rows + 1) < k → FirstTold s channels depth next (rows + 1) i j first → new ≡ rowPut out (rowNo line) (Case o first)
+    → FirstTold s next i j first → new ≡ rowPut out (rowNo line) (Case o first)
     → laid new (line + 1) (caseRows (w .rest) (i + (n - rows - 1)) j) ≡ laid out line (caseRows cs i j)
-row-laid {k = k} {rows = rows} {a′ = a′} {n = n} {o} w out line i j first l f e =
+row-laid {k = k} {channels = channels} {depth} {rows = rows} {a′ = a′} {n = n} {o} w out line i j first f e =
     let q = w .size in
     let p : i + (n - rows - 1) ≡ i + sizeB (w .one) = omega arith in
     let t : line + 1 ≡ suc line = omega arith in
-    rw (e, f k (w .one) a′ n l (w .is), p, t, w .whole) (case-laid out line i j o (w .one) (w .rest))
+    rw (e, f k channels depth (rows + 1) (w .one) a′ n (w .is), p, t, w .whole) (case-laid out line i j o (w .one) (w .rest))
 
 -- The same of the bodies of cases.
 bodies-laid : (out : List ℕ) (d i j : ℕ) (o : Op) (b : Body) (cs : Cases) → laid (laid out i (rowsB b d i j)) (i + sizeB b) (rowsC cs d (i + sizeB b) j) ≡ laid out i (rowsC (case o b cs) d i j)

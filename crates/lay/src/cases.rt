@@ -51,7 +51,7 @@ pub fn lay_cases(
         let OpRead::Got(op, next) = o else {
             return;
         };
-        let first = first_at(text, channels, depth, next, rows + 1, i, j);
+        let first = first_at(text, next, i, j);
         put_row(out, Row(line), Statement::Case(op, first));
         i = i + (so_far - rows - 1);
         at = behind;

@@ -59,12 +59,12 @@ fn lay_ifok(
         return;
     };
     let mid = i + 1 + (so_far - rows);
-    let first = first_at(text, channels, depth, at, rows, i + 1, j);
+    let first = first_at(text, at, i + 1, j);
     let w = word_at(text, behind);
     let kind = w.kind;
     let next = w.next;
     if kind == ELSE {
-        let second = first_at(text, channels, depth, next, so_far, mid, j);
+        let second = first_at(text, next, mid, j);
         put_row(out, Row(i), Statement::Ifok(first, second));
         lay_body(text, channels, depth, at, rows, i + 1, j, out);
         lay_body(text, channels, depth, next, so_far, mid, j, out);
@@ -151,7 +151,7 @@ fn lay_select(
     };
     let start = i + 1 + (n as u16);
     let last = i + 1 + (so_far - rows);
-    let e = otherwise_at(text, channels, depth, behind, so_far, last, j);
+    let e = otherwise_at(text, behind, last, j);
     put_row(out, Row(i), Statement::Select(n, e));
     lay_cases(text, channels, depth, at, rows, i + 1, start, j, out);
     lay_bodies(text, channels, depth, at, rows, start, j, out);
@@ -184,7 +184,7 @@ fn lay_stmt(
             put_row(out, Row(i), Statement::Stop);
         }
         Head::Range(p, next) => {
-            let first = first_at(text, channels, depth + 1, next, rows + 1, i + 1, i);
+            let first = first_at(text, next, i + 1, i);
             lay_loop(
                 text,
                 channels,
@@ -197,7 +197,7 @@ fn lay_stmt(
             );
         }
         Head::Repeat(n, next) => {
-            let first = first_at(text, channels, depth + 1, next, rows + 1, i + 1, i);
+            let first = first_at(text, next, i + 1, i);
             lay_loop(
                 text,
                 channels,
@@ -241,7 +241,7 @@ pub fn lay_body(
             return;
         };
         let end = i + (so_far - rows);
-        let next = first_at(text, channels, depth, behind, so_far, end, after);
+        let next = first_at(text, behind, end, after);
         lay_stmt(text, channels, depth, at, rows, i, next.0, out);
         at = behind;
         rows = so_far;

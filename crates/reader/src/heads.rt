@@ -169,8 +169,8 @@ fn is_block(kind: u8) -> bool
     kind == SELECT
 }
 
-// Whether a word begins a statement, and so needs a row.
-fn is_statement(kind: u8) -> bool
+// Whether a word of this kind begins a statement, and so needs a row.
+pub fn is_statement(kind: u8) -> bool
     ensures { λ r. ⌜ r ≡ isStatement kind ⌝ }
 {
     if is_op(kind) {

@@ -69,10 +69,6 @@ same-length-2 c = search needs
 returns-2 : tie.Need-returns-2 Inv-loop μ-loop
 returns-2 c = λ k cs a r l e. absurd (no-oper k _ _ _ (caseLimit - c .before .before .before .before .before .before .loop .n) (c .before .before .before .before .before .before .loop .at) (c .before .before .before .before .before .before .loop .rows) (c .before .case-op-at .result) (omega arith) (c .before .before .before .r .given .1) (c .before .before .before .before .before .read-case .ensures) (not-got (c .before .case-op-at .result) (c .match2 .keys2)) (c .before .case-op-at .ensures))
 
--- src/cases.rt:44:59
-add-first-at : tie.Need-add-first-at Inv-loop μ-loop
-add-first-at c = let g = case-grows _ _ _ (c .before .before .before .before .before .before .before .before .loop .at) (c .before .before .before .before .before .before .before .before .loop .rows) (caseLimit - c .before .before .before .before .before .before .before .before .loop .n) (c .before .before .before .before .before .r .given .1) (c .before .before .before .before .before .before .before .read-case .ensures) in let m = case-room _ _ _ (caseLimit - c .before .before .before .before .before .before .before .before .loop .n) (c .before .before .before .before .before .before .before .before .loop .at) (c .before .before .before .before .before .before .before .before .loop .rows) (c .before .before .before .before .before .r .given .1) (c .before .before .before .before .before .before .before .read-case .ensures) in omega arith
-
 -- src/cases.rt:44:13
 first-at-requires : tie.Need-first-at-requires Inv-loop μ-loop
 first-at-requires c κs = search needs
@@ -120,7 +116,7 @@ loop-again c = let g = case-grows _ _ _ (c .before .before .before .before .befo
       let w = case-turn k _ _ _ (caseLimit - c .before .before .before .before .before .before .before .before .before .before .before .before .before .loop .n) (c .before .before .before .before .before .before .before .before .before .before .before .before .before .loop .at) (c .before .before .before .before .before .before .before .before .before .before .before .before .before .loop .rows) (omega arith) (c .before .before .before .before .before .before .before .before .before .before .r .given .1) (c .before .before .before .before .before .before .before .before .before .before .before .before .read-case .ensures) (c .before .before .before .before .before .before .o .given .1) (c .before .before .before .before .before .before .before .before .case-op-at .ensures) (z .1) in
       let f = w .left-is in
       let q : w .fewer ≡ caseLimit - (c .before .before .before .before .before .before .before .before .before .before .before .before .before .loop .n + 1) = omega arith in
-      (w .rest, rw (← q) (w .rest-is), row-laid w _ (c .before .before .before .before .before .before .before .before .before .before .before .before .before .loop .line) (c .before .before .before .before .before .before .before .before .before .before .before .before .before .loop .i) _ (c .before .before .before .before .first-at .result) (omega arith) (c .before .before .before .before .first-at .ensures) (c .before .before .put-row .ensures) ∙ z .2),
+      (w .rest, rw (← q) (w .rest-is), row-laid w _ (c .before .before .before .before .before .before .before .before .before .before .before .before .before .loop .line) (c .before .before .before .before .before .before .before .before .before .before .before .before .before .loop .i) _ (c .before .before .before .before .first-at .result) (c .before .before .before .before .first-at .ensures) (c .before .before .put-row .ensures) ∙ z .2),
 )
 
 pub lay-cases-spec : {M : Type 1} → statement M
@@ -139,7 +135,6 @@ lay-cases-spec =
     enum-known-o
     same-length-2
     returns-2
-    add-first-at
     first-at-requires
     put-row-requires
     sub-i

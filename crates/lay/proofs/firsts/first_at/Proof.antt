@@ -1,44 +1,28 @@
-use Rattle.lay.specs.Turns.{turn, no-turn}
-use Rattle.meaning.specs.Layout.{entry}
+use mathlib.Core.Path.{sym, _∙_}
+use Rattle.lay.specs.Turns.{entry-there, entry-behind}
 use borrow.Author.Needs.{needs}
 use Rattle.lay.proofs.firsts.first_at.Statement.{statement}
 use Rattle.lay.proofs.firsts.first_at.Tie as tie
 use Rattle.lay.proofs.firsts.first_at.Reads as reads
 use Rattle.lay.proofs.firsts.first_at.Lts as lts
-use Rattle.reader.proofs.statements.read_stmt.Reads as read-stmt-reads
+use Rattle.reader.proofs.heads.is_statement.Reads as is-statement-reads
+use Rattle.words.proofs.word_at.Reads as word-at-reads
 
--- src/firsts.rt:14:11
-read-stmt-requires : tie.Need-read-stmt-requires
-read-stmt-requires c κs = search needs
+-- src/firsts.rt:13:9
+word-at-requires : tie.Need-word-at-requires
+word-at-requires c κs = search needs
 
--- src/firsts.rt:15:29
-enum-told : tie.Need-enum-told
-enum-told c = search needs
+-- src/firsts.rt:15:8
+is-statement-requires : tie.Need-is-statement-requires
+is-statement-requires c κs = search needs
 
--- src/firsts.rt:16:26
-enum-told-2 : tie.Need-enum-told-2
-enum-told-2 c = search needs
-
--- src/firsts.rt:17:32
-enum-told-3 : tie.Need-enum-told-3
-enum-told-3 c = search needs
-
--- src/firsts.rt:11:1
+-- src/firsts.rt:10:1
 returns : tie.Need-returns
-unfolding entry
-returns c = λ k b a r l e. let z = turn _ _ _ _ _ (c .enum-told .given .1) (c .before .before .read-stmt .ensures) k l e in rw (z .whole)
+returns c = entry-there _ _ _ _ (c .before .before .word-at .ensures) (sym (c .before .is-statement .ensures) ∙ c .if1 .taken)
 
--- src/firsts.rt:11:1
+-- src/firsts.rt:10:1
 returns-2 : tie.Need-returns-2
-unfolding entry
-returns-2 c = λ k b a r l e. rw (no-turn _ _ _ _ _ (rw (c .enum-told2 .given .1) tt) (c .before .before .read-stmt .ensures) k l e)
-
--- src/firsts.rt:11:1
-returns-3 : tie.Need-returns-3
-unfolding entry
-returns-3 c = λ k b a r l e. rw (no-turn _ _ _ _ _ (rw (c .enum-told3 .given .1) tt) (c .before .before .read-stmt .ensures) k l e)
+returns-2 c = entry-behind _ _ _ _ (c .before .before .word-at .ensures) (sym (c .before .is-statement .ensures) ∙ c .if1 .left)
 
 pub first-at-spec : {M : Type 1} → statement M
-first-at-spec =
-    tie.close
-    (tie.spec read-stmt-requires enum-told enum-told-2 enum-told-3 returns returns-2 returns-3)
+first-at-spec = tie.close (tie.spec word-at-requires is-statement-requires returns returns-2)

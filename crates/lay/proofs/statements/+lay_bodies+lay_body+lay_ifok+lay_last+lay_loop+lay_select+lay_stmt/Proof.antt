@@ -268,14 +268,14 @@ pub +lay-bodies+lay-body+lay-ifok+lay-last+lay-loop+lay-select+lay-stmt-spec :
     let w = bind-told _ _ (c .before .before .before .before .before .before .before .before .before .before .before .before .before .before .before .before .before .body .given .1) (c .before .before .before .before .before .before .before .before .before .before .before .before .before .before .before .before .before .before .before .read-body .ensures k l) e in
     let f = body-size k _ _ _ _ _ (w .1) in
     let z = if-else _ _ _ (w .0) _ _ (c .before .before .before .before .before .before .before .before .before .before .before .before .before .before .word-at .ensures) (c .before .before .before .before .before .before .before .before .before .before .before .before .before .if1 .taken) (w .2) in
-    ifok-laid _ _ _ _ _ (w .0) (z .0) q (omega (arith, c .before .before .before .before .before .before .before .before .before .before .before .before .before .before .before .before .before .before .before .before .before .before .pre)) (z .4) (c .before .before .before .before .before .before .before .before .before .before .before .before .before .before .before .first-at .ensures k (w .0) _ _ l (w .1)) (c .before .before .before .before .before .before .before .before .before .before .before .before .first-at2 .ensures k (z .0) _ _ (omega (arith, c .before .before .before .before .before .before .before .before .before .before .before .before .before .before .before .before .before .before .before .before .before .before .pre)) (z .3)) (c .before .before .before .before .before .before .before .before .before .before .put-row .ensures) (c .before .before .before .before .before .before .lay-body .ensures k (w .0) _ _ l (w .1)) (c .before .before .lay-body2 .ensures k (z .0) _ _ (omega (arith, c .before .before .before .before .before .before .before .before .before .before .before .before .before .before .before .before .before .before .before .before .before .before .pre)) (z .3)))
+    ifok-laid _ _ _ _ _ (w .0) (z .0) q (omega (arith, c .before .before .before .before .before .before .before .before .before .before .before .before .before .before .before .before .before .before .before .before .before .before .pre)) (z .4) (c .before .before .before .before .before .before .before .before .before .before .before .before .before .before .before .first-at .ensures k _ _ _ (w .0) _ _ (w .1)) (c .before .before .before .before .before .before .before .before .before .before .before .before .first-at2 .ensures k _ _ _ (z .0) _ _ (z .3)) (c .before .before .before .before .before .before .before .before .before .before .put-row .ensures) (c .before .before .before .before .before .before .lay-body .ensures k (w .0) _ _ l (w .1)) (c .before .before .lay-body2 .ensures k (z .0) _ _ (omega (arith, c .before .before .before .before .before .before .before .before .before .before .before .before .before .before .before .before .before .before .before .before .before .before .pre)) (z .3)))
     (λ c κs. search needs)
     (λ c. let g = body-grows (now (c .before .before .before .before .before .before .before .before .before .before .before .before .before .args .text)) (c .before .before .before .before .before .before .before .before .before .before .before .before .before .args .channels) (c .before .before .before .before .before .before .before .before .before .before .before .before .before .args .depth) (c .before .before .before .before .before .before .before .before .before .before .before .before .before .args .at) (c .before .before .before .before .before .before .before .before .before .before .before .before .before .args .rows) (c .before .before .before .before .before .before .before .before .body .given .1) (c .before .before .before .before .before .before .before .before .before .before .read-body .ensures) in let m = body-room (now (c .before .before .before .before .before .before .before .before .before .before .before .before .before .args .text)) (c .before .before .before .before .before .before .before .before .before .before .before .before .before .args .channels) (c .before .before .before .before .before .before .before .before .before .before .before .before .before .args .depth) (c .before .before .before .before .before .before .before .before .before .before .before .before .before .args .at) (c .before .before .before .before .before .before .before .before .before .before .before .before .before .args .rows) (omega (arith, c .before .before .before .before .before .before .before .before .before .before .before .before .before .pre)) (c .before .before .before .before .before .before .before .before .body .given .1) (c .before .before .before .before .before .before .before .before .before .before .read-body .ensures) in omega (arith, c .before .before .before .before .before .before .before .before .before .before .before .before .before .pre))
     (λ c κs. let g = body-grows (now (c .before .before .before .before .before .before .before .before .before .before .before .before .before .before .args .text)) (c .before .before .before .before .before .before .before .before .before .before .before .before .before .before .args .channels) (c .before .before .before .before .before .before .before .before .before .before .before .before .before .before .args .depth) (c .before .before .before .before .before .before .before .before .before .before .before .before .before .before .args .at) (c .before .before .before .before .before .before .before .before .before .before .before .before .before .before .args .rows) (c .before .before .before .before .before .before .before .before .before .body .given .1) (c .before .before .before .before .before .before .before .before .before .before .before .read-body .ensures) in let m = body-room (now (c .before .before .before .before .before .before .before .before .before .before .before .before .before .before .args .text)) (c .before .before .before .before .before .before .before .before .before .before .before .before .before .before .args .channels) (c .before .before .before .before .before .before .before .before .before .before .before .before .before .before .args .depth) (c .before .before .before .before .before .before .before .before .before .before .before .before .before .before .args .at) (c .before .before .before .before .before .before .before .before .before .before .before .before .before .before .args .rows) (omega (arith, c .before .before .before .before .before .before .before .before .before .before .before .before .before .before .pre)) (c .before .before .before .before .before .before .before .before .before .body .given .1) (c .before .before .before .before .before .before .before .before .before .before .before .read-body .ensures) in (omega (arith, c .before .before .before .before .before .before .before .before .before .before .before .before .before .before .pre), (omega (arith, c .before .before .before .before .before .before .before .before .before .before .before .before .before .before .pre), omega (arith, c .before .before .before .before .before .before .before .before .before .before .before .before .before .before .pre), omega (arith, c .before .before .before .before .before .before .before .before .before .before .before .before .before .before .pre))))
     (λ c. search needs)
     (λ c. λ k d x a r q l e.
     let w = bind-told _ _ (c .before .before .before .before .before .before .before .before .before .before .before .before .body .given .1) (c .before .before .before .before .before .before .before .before .before .before .before .before .before .before .read-body .ensures k l) e in
-    ifok-laid-one _ _ _ _ _ (w .0) q (if-end _ _ _ (w .0) _ _ (c .before .before .before .before .before .before .before .before .before .word-at .ensures) (c .before .before .before .before .before .before .before .before .if1 .left) (w .2)) (c .before .before .before .before .before .before .before .before .before .before .first-at .ensures k (w .0) _ _ l (w .1)) (c .before .before .before .before .before .before .put-row2 .ensures) (c .before .before .lay-body3 .ensures k (w .0) _ _ l (w .1))))
+    ifok-laid-one _ _ _ _ _ (w .0) q (if-end _ _ _ (w .0) _ _ (c .before .before .before .before .before .before .before .before .before .word-at .ensures) (c .before .before .before .before .before .before .before .before .if1 .left) (w .2)) (c .before .before .before .before .before .before .before .before .before .before .first-at .ensures k _ _ _ (w .0) _ _ (w .1)) (c .before .before .before .before .before .before .put-row2 .ensures) (c .before .before .lay-body3 .ensures k (w .0) _ _ l (w .1))))
     (λ t. lay-last-lts.spec (
       word-at-reads.Asked,
       word-at-reads.Learnt,
@@ -334,7 +334,7 @@ pub +lay-bodies+lay-body+lay-ifok+lay-last+lay-loop+lay-select+lay-stmt-spec :
     (λ c. search needs)
     (λ c. let g = cases-grow (now (c .before .before .before .before .before .before .before .before .before .before .before .before .before .before .before .before .before .before .before .args .text)) (c .before .before .before .before .before .before .before .before .before .before .before .before .before .before .before .before .before .before .before .args .channels) (c .before .before .before .before .before .before .before .before .before .before .before .before .before .before .before .before .before .before .before .args .depth) (c .before .before .before .before .before .before .before .before .before .before .before .before .before .before .before .before .before .before .before .args .at) (c .before .before .before .before .before .before .before .before .before .before .before .before .before .before .before .before .before .before .before .args .rows) (c .before .before .before .before .before .before .before .before .before .before .before .before .before .before .cases .given .1) (c .before .before .before .before .before .before .before .before .before .before .before .before .before .before .before .before .read-cases .ensures) in let m = cases-room (now (c .before .before .before .before .before .before .before .before .before .before .before .before .before .before .before .before .before .before .before .args .text)) (c .before .before .before .before .before .before .before .before .before .before .before .before .before .before .before .before .before .before .before .args .channels) (c .before .before .before .before .before .before .before .before .before .before .before .before .before .before .before .before .before .before .before .args .depth) (c .before .before .before .before .before .before .before .before .before .before .before .before .before .before .before .before .before .before .before .args .at) (c .before .before .before .before .before .before .before .before .before .before .before .before .before .before .before .before .before .before .before .args .rows) (omega (arith, c .before .before .before .before .before .before .before .before .before .before .before .before .before .before .before .before .before .before .before .pre)) (c .before .before .before .before .before .before .before .before .before .before .before .before .before .before .cases .given .1) (c .before .before .before .before .before .before .before .before .before .before .before .before .before .before .before .before .read-cases .ensures) in λ k d x a r q l e.
     let w = chosen k _ _ _ _ _ l (c .before .before .before .before .before .before .before .before .before .before .before .before .before .before .cases .given .1) (c .before .before .before .before .before .before .before .before .before .before .before .before .before .before .before .before .read-cases .ensures) e in
-    select-laid _ _ _ _ _ w (c .before .before .before .before .before .before .before .before .before .before .before .before .otherwise-at .result) q g (c .before .before .before .before .before .before .before .before .before .before .before .before .otherwise-at .ensures k (behindCases (w .cases)) (w .end) (w .total) (omega (arith, c .before .before .before .before .before .before .before .before .before .before .before .before .before .before .before .before .before .before .before .pre)) (w .last-is)) (c .before .before .before .before .before .before .before .before .before .before .put-row .ensures) (c .before .before .before .before .before .before .lay-cases .ensures k (w .cases) _ _ l (w .is)) (c .before .before .lay-bodies .ensures k (w .cases) _ _ l (w .is))))
+    select-laid _ _ _ _ _ w (c .before .before .before .before .before .before .before .before .before .before .before .before .otherwise-at .result) q g (c .before .before .before .before .before .before .before .before .before .before .before .before .otherwise-at .ensures k _ _ _ (behindCases (w .cases)) (w .end) (w .total) (w .last-is)) (c .before .before .before .before .before .before .before .before .before .before .put-row .ensures) (c .before .before .before .before .before .before .lay-cases .ensures k (w .cases) _ _ l (w .is)) (c .before .before .lay-bodies .ensures k (w .cases) _ _ l (w .is))))
     λ t. lay-stmt-lts.spec (
       read-head-reads.Asked,
       read-head-reads.Learnt,
@@ -362,15 +362,11 @@ pub +lay-bodies+lay-body+lay-ifok+lay-last+lay-loop+lay-select+lay-stmt-spec :
     (λ c κs. search needs)
     (λ c. search needs)
     (λ c. let f = head-told (now (c .before .before .before .before .before .before .args .text)) (c .before .before .before .before .before .before .args .channels) (c .before .before .before .before .before .before .args .depth) (c .before .before .before .before .before .before .args .at) (c .before .before .before .before .before .before .args .rows) (c .before .p2 .given .1) (c .before .before .before .read-head .ensures) in omega arith)
-    (λ c. let f = head-told (now (c .before .before .before .before .before .before .args .text)) (c .before .before .before .before .before .before .args .channels) (c .before .before .before .before .before .before .args .depth) (c .before .before .before .before .before .before .args .at) (c .before .before .before .before .before .before .args .rows) (c .before .p2 .given .1) (c .before .before .before .read-head .ensures) in omega arith)
-    (λ c. let f = head-told (now (c .before .before .before .before .before .before .args .text)) (c .before .before .before .before .before .before .args .channels) (c .before .before .before .before .before .before .args .depth) (c .before .before .before .before .before .before .args .at) (c .before .before .before .before .before .before .args .rows) (c .before .p2 .given .1) (c .before .before .before .read-head .ensures) in omega arith)
     (λ c κs. search needs)
     (λ c. let f = head-told (now (c .before .before .before .before .before .before .before .args .text)) (c .before .before .before .before .before .before .before .args .channels) (c .before .before .before .before .before .before .before .args .depth) (c .before .before .before .before .before .before .before .args .at) (c .before .before .before .before .before .before .before .args .rows) (c .before .before .p2 .given .1) (c .before .before .before .before .read-head .ensures) in omega arith)
     (λ c. let f = head-told (now (c .before .before .before .before .before .before .before .args .text)) (c .before .before .before .before .before .before .before .args .channels) (c .before .before .before .before .before .before .before .args .depth) (c .before .before .before .before .before .before .before .args .at) (c .before .before .before .before .before .before .before .args .rows) (c .before .before .p2 .given .1) (c .before .before .before .before .read-head .ensures) in omega arith)
     (λ c κs. let f = head-told (now (c .before .before .before .before .before .before .before .before .args .text)) (c .before .before .before .before .before .before .before .before .args .channels) (c .before .before .before .before .before .before .before .before .args .depth) (c .before .before .before .before .before .before .before .before .args .at) (c .before .before .before .before .before .before .before .before .args .rows) (c .before .before .before .p2 .given .1) (c .before .before .before .before .before .read-head .ensures) in (omega arith, (omega arith, omega arith, omega arith)))
     (λ c. search needs)
-    (λ c. let f = head-told (now (c .before .before .before .before .before .before .args .text)) (c .before .before .before .before .before .before .args .channels) (c .before .before .before .before .before .before .args .depth) (c .before .before .before .before .before .before .args .at) (c .before .before .before .before .before .before .args .rows) (c .before .n .given .1) (c .before .before .before .read-head .ensures) in omega arith)
-    (λ c. let f = head-told (now (c .before .before .before .before .before .before .args .text)) (c .before .before .before .before .before .before .args .channels) (c .before .before .before .before .before .before .args .depth) (c .before .before .before .before .before .before .args .at) (c .before .before .before .before .before .before .args .rows) (c .before .n .given .1) (c .before .before .before .read-head .ensures) in omega arith)
     (λ c. let f = head-told (now (c .before .before .before .before .before .before .args .text)) (c .before .before .before .before .before .before .args .channels) (c .before .before .before .before .before .before .args .depth) (c .before .before .before .before .before .before .args .at) (c .before .before .before .before .before .before .args .rows) (c .before .n .given .1) (c .before .before .before .read-head .ensures) in omega arith)
     (λ c κs. search needs)
     (λ c. let f = head-told (now (c .before .before .before .before .before .before .before .args .text)) (c .before .before .before .before .before .before .before .args .channels) (c .before .before .before .before .before .before .before .args .depth) (c .before .before .before .before .before .before .before .args .at) (c .before .before .before .before .before .before .before .args .rows) (c .before .before .n .given .1) (c .before .before .before .before .read-head .ensures) in omega arith)
@@ -393,9 +389,9 @@ pub +lay-bodies+lay-body+lay-ifok+lay-last+lay-loop+lay-select+lay-stmt-spec :
     (λ c. search needs)
     (λ c. λ k x a r l e. stop-laid _ _ _ _ (same-got (head-as (now (c .before .before .before .before .before .before .before .before .before .args .text)) (c .before .before .before .before .before .before .before .before .before .args .channels) (c .before .before .before .before .before .before .before .before .before .args .depth) (c .before .before .before .before .before .before .before .before .before .args .at) (c .before .before .before .before .before .before .before .before .before .args .rows) (c .before .before .before .before .enum-told3 .given .1) (c .before .before .before .before .before .before .read-head .ensures) (bodyFrom k (now (c .before .before .before .before .before .before .before .before .before .args .text)) (c .before .before .before .before .before .before .before .before .before .args .channels) (c .before .before .before .before .before .before .before .before .before .args .depth + 1)) e) .0) (c .before .before .put-row3 .ensures))
     (λ c. search needs)
-    (λ c. λ k x a r l e. let f = head-told (now (c .before .before .before .before .before .before .before .before .before .before .before .args .text)) (c .before .before .before .before .before .before .before .before .before .before .before .args .channels) (c .before .before .before .before .before .before .before .before .before .before .before .args .depth) (c .before .before .before .before .before .before .before .before .before .before .before .args .at) (c .before .before .before .before .before .before .before .before .before .before .before .args .rows) (c .before .before .before .before .before .before .p2 .given .1) (c .before .before .before .before .before .before .before .before .read-head .ensures) in let g = bind-got _ _ (head-as (now (c .before .before .before .before .before .before .before .before .before .before .before .args .text)) (c .before .before .before .before .before .before .before .before .before .before .before .args .channels) (c .before .before .before .before .before .before .before .before .before .before .before .args .depth) (c .before .before .before .before .before .before .before .before .before .before .before .args .at) (c .before .before .before .before .before .before .before .before .before .before .before .args .rows) (c .before .before .before .before .before .before .p2 .given .1) (c .before .before .before .before .before .before .before .before .read-head .ensures) (bodyFrom k (now (c .before .before .before .before .before .before .before .before .before .before .before .args .text)) (c .before .before .before .before .before .before .before .before .before .before .before .args .channels) (c .before .before .before .before .before .before .before .before .before .before .before .args .depth + 1)) e) in range-laid _ _ _ _ (g .0) (closed-got _ _ _ _ (g .4)) (c .before .before .before .before .first-at .ensures k (g .0) (g .1) (g .2) (omega arith) (g .3)) (c .before .before .lay-loop .ensures k (g .0) (g .1) (g .2) (omega arith) (g .3)))
+    (λ c. λ k x a r l e. let f = head-told (now (c .before .before .before .before .before .before .before .before .before .before .before .args .text)) (c .before .before .before .before .before .before .before .before .before .before .before .args .channels) (c .before .before .before .before .before .before .before .before .before .before .before .args .depth) (c .before .before .before .before .before .before .before .before .before .before .before .args .at) (c .before .before .before .before .before .before .before .before .before .before .before .args .rows) (c .before .before .before .before .before .before .p2 .given .1) (c .before .before .before .before .before .before .before .before .read-head .ensures) in let g = bind-got _ _ (head-as (now (c .before .before .before .before .before .before .before .before .before .before .before .args .text)) (c .before .before .before .before .before .before .before .before .before .before .before .args .channels) (c .before .before .before .before .before .before .before .before .before .before .before .args .depth) (c .before .before .before .before .before .before .before .before .before .before .before .args .at) (c .before .before .before .before .before .before .before .before .before .before .before .args .rows) (c .before .before .before .before .before .before .p2 .given .1) (c .before .before .before .before .before .before .before .before .read-head .ensures) (bodyFrom k (now (c .before .before .before .before .before .before .before .before .before .before .before .args .text)) (c .before .before .before .before .before .before .before .before .before .before .before .args .channels) (c .before .before .before .before .before .before .before .before .before .before .before .args .depth + 1)) e) in range-laid _ _ _ _ (g .0) (closed-got _ _ _ _ (g .4)) (c .before .before .before .before .first-at .ensures k _ _ _ (g .0) (g .1) (g .2) (g .3)) (c .before .before .lay-loop .ensures k (g .0) (g .1) (g .2) (omega arith) (g .3)))
     (λ c. search needs)
-    (λ c. λ k x a r l e. let f = head-told (now (c .before .before .before .before .before .before .before .before .before .before .before .args .text)) (c .before .before .before .before .before .before .before .before .before .before .before .args .channels) (c .before .before .before .before .before .before .before .before .before .before .before .args .depth) (c .before .before .before .before .before .before .before .before .before .before .before .args .at) (c .before .before .before .before .before .before .before .before .before .before .before .args .rows) (c .before .before .before .before .before .before .n .given .1) (c .before .before .before .before .before .before .before .before .read-head .ensures) in let g = bind-got _ _ (head-as (now (c .before .before .before .before .before .before .before .before .before .before .before .args .text)) (c .before .before .before .before .before .before .before .before .before .before .before .args .channels) (c .before .before .before .before .before .before .before .before .before .before .before .args .depth) (c .before .before .before .before .before .before .before .before .before .before .before .args .at) (c .before .before .before .before .before .before .before .before .before .before .before .args .rows) (c .before .before .before .before .before .before .n .given .1) (c .before .before .before .before .before .before .before .before .read-head .ensures) (bodyFrom k (now (c .before .before .before .before .before .before .before .before .before .before .before .args .text)) (c .before .before .before .before .before .before .before .before .before .before .before .args .channels) (c .before .before .before .before .before .before .before .before .before .before .before .args .depth + 1)) e) in repeat-laid _ _ _ _ (g .0) (closed-got _ _ _ _ (g .4)) (c .before .before .before .before .first-at2 .ensures k (g .0) (g .1) (g .2) (omega arith) (g .3)) (c .before .before .lay-loop2 .ensures k (g .0) (g .1) (g .2) (omega arith) (g .3)))
+    (λ c. λ k x a r l e. let f = head-told (now (c .before .before .before .before .before .before .before .before .before .before .before .args .text)) (c .before .before .before .before .before .before .before .before .before .before .before .args .channels) (c .before .before .before .before .before .before .before .before .before .before .before .args .depth) (c .before .before .before .before .before .before .before .before .before .before .before .args .at) (c .before .before .before .before .before .before .before .before .before .before .before .args .rows) (c .before .before .before .before .before .before .n .given .1) (c .before .before .before .before .before .before .before .before .read-head .ensures) in let g = bind-got _ _ (head-as (now (c .before .before .before .before .before .before .before .before .before .before .before .args .text)) (c .before .before .before .before .before .before .before .before .before .before .before .args .channels) (c .before .before .before .before .before .before .before .before .before .before .before .args .depth) (c .before .before .before .before .before .before .before .before .before .before .before .args .at) (c .before .before .before .before .before .before .before .before .before .before .before .args .rows) (c .before .before .before .before .before .before .n .given .1) (c .before .before .before .before .before .before .before .before .read-head .ensures) (bodyFrom k (now (c .before .before .before .before .before .before .before .before .before .before .before .args .text)) (c .before .before .before .before .before .before .before .before .before .before .before .args .channels) (c .before .before .before .before .before .before .before .before .before .before .before .args .depth + 1)) e) in repeat-laid _ _ _ _ (g .0) (closed-got _ _ _ _ (g .4)) (c .before .before .before .before .first-at2 .ensures k _ _ _ (g .0) (g .1) (g .2) (g .3)) (c .before .before .lay-loop2 .ensures k (g .0) (g .1) (g .2) (omega arith) (g .3)))
     (λ c. search needs)
     (λ c. λ k x a r l e. let f = head-told (now (c .before .before .before .before .before .before .before .before .before .before .args .text)) (c .before .before .before .before .before .before .before .before .before .before .args .channels) (c .before .before .before .before .before .before .before .before .before .before .args .depth) (c .before .before .before .before .before .before .before .before .before .before .args .at) (c .before .before .before .before .before .before .before .before .before .before .args .rows) (c .before .before .before .before .before .next .given .1) (c .before .before .before .before .before .before .before .read-head .ensures) in c .before .before .lay-ifok .ensures k (c .before .before .before .before .before .before .before .before .before .before .args .depth) x a r (omega arith) (omega arith) (head-as (now (c .before .before .before .before .before .before .before .before .before .before .args .text)) (c .before .before .before .before .before .before .before .before .before .before .args .channels) (c .before .before .before .before .before .before .before .before .before .before .args .depth) (c .before .before .before .before .before .before .before .before .before .before .args .at) (c .before .before .before .before .before .before .before .before .before .before .args .rows) (c .before .before .before .before .before .next .given .1) (c .before .before .before .before .before .before .before .read-head .ensures) (bodyFrom k (now (c .before .before .before .before .before .before .before .before .before .before .args .text)) (c .before .before .before .before .before .before .before .before .before .before .args .channels) (c .before .before .before .before .before .before .before .before .before .before .args .depth + 1)) e))
     (λ c. search needs)
