@@ -176,6 +176,14 @@ pub number-digits : (w : List ℕ) → isNumber w ≡ true → onlyDigits w ≡ 
 unfolding isNumber
 number-digits w e = both (not (eqb (length w) 0) && not (leadingZero w)) (onlyDigits w) e .1
 
+pub valued : (w : List ℕ) → kindOf w ≡ numberKind → valueOf w ≡ numeral w
+unfolding valueOf
+valued w e = rw (kind-number w e)
+
+pub valueless : (w : List ℕ) → (kindOf w ≡ numberKind → ⊥) → valueOf w ≡ 0
+unfolding valueOf
+valueless w n = by-cases (λ v. v ≡ 0) (isNumber w) _ _ (λ e. absurd (n (number-kind w e))) (λ _. refl)
+
 pub value-limit : (w : List ℕ) → valueOf w ≤ numberCap
 unfolding valueOf numeral
 value-limit w = by-cases (λ n. n ≤ numberCap) (isNumber w) _ _ (λ _. omega arith) (λ _. omega arith)
@@ -261,12 +269,12 @@ module _ (text : List ℕ) (at : ℕ) where
   word-kind = refl
 
   pub number-value : wordAt text at .kind ≡ numberKind → wordAt text at .value ≡ numeral (bytesAt text at)
-  unfolding wordAt valueOf
-  number-value e = rw (kind-number (bytesAt text at) e)
+  unfolding wordAt
+  number-value e = valued (bytesAt text at) e
 
   pub other-value : (wordAt text at .kind ≡ numberKind → ⊥) → wordAt text at .value ≡ 0
-  unfolding wordAt valueOf
-  other-value n = by-cases (λ v. v ≡ 0) (isNumber (bytesAt text at)) _ _ (λ e. absurd (n (number-kind (bytesAt text at) e))) (λ _. refl)
+  unfolding wordAt
+  other-value n = valueless (bytesAt text at) n
 
   pub word-limits : (wordAt text at .kind ≤ otherKind) × (wordAt text at .value ≤ numberCap)
   unfolding wordAt

@@ -219,23 +219,25 @@ fn numeral_of(word: &[u8]) -> u32
     v
 }
 
-fn value_of(word: &[u8]) -> u32
-    ensures { λ r. ⌜ r ≡ valueOf (now (word .entry)) ⌝ }
-{
-    if is_number(word) { numeral_of(word) } else { 0 }
-}
-
+// A word's kind. A number is told ahead of the table, which has none, so that the table is walked for words alone.
 fn kind_of(word: &[u8]) -> u8
     ensures { λ r. ⌜ r ≡ kindOf (now (word .entry)) ⌝ }
 {
     if word.len() == 0 {
         return 0;
     }
-    let k = place_of(word);
-    if k < 16 {
-        return k + 1;
+    if is_number(word) {
+        return 17;
     }
-    if is_number(word) { 17 } else { 18 }
+    let k = place_of(word);
+    if k < 16 { k + 1 } else { 18 }
+}
+
+fn value_of(word: &[u8], kind: u8) -> u32
+    requires { ⌜ kind ≡ kindOf (now word) ⌝ }
+    ensures { λ r. ⌜ r ≡ valueOf (now (word .entry)) ⌝ }
+{
+    if kind == 17 { numeral_of(word) } else { 0 }
 }
 
 // The word that begins at the first byte from `at` on that is no blank.
@@ -253,9 +255,10 @@ pub fn word_at(text: &[u8], at: usize) -> Word
     }
     let next = word_end(text, start);
     let word = &text[start..next];
+    let kind = kind_of(word);
     Word {
-        kind: kind_of(word),
-        value: value_of(word),
+        kind: kind,
+        value: value_of(word, kind),
         start: start,
         next: next,
     }
