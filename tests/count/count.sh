@@ -15,25 +15,35 @@ flags="-std=gnu11 -O2 -ffreestanding -fno-pic -fno-stack-protector -fno-asynchro
 [ -f target/staticlib/libbench.a ] || rt staticlib bench >&2
 mkdir -p $out
 $cc $flags -fno-builtin -c tests/count/start.c -o $out/start.o
-kind() { # kind NUMBER NAME
+$cc $flags -c tests/count/plain.c -o $out/plain.o
+count() { # count KIND WHO FLAG: the instructions of one round, by function
     for k in $n $((2 * n)); do
-        $cc $flags -DN=$k -DKIND=$1 -c tests/count/bench.c -o $out/bench.o
-        "$tools/bin/ld.lld" -static --gc-sections -o $out/bench$k $out/start.o $out/bench.o target/staticlib/libbench.a
+        $cc $flags $3 -DN=$k -DKIND=$1 -c tests/count/bench.c -o $out/bench.o
+        "$tools/bin/ld.lld" -static --gc-sections -o $out/bench$k $out/start.o $out/bench.o $out/plain.o target/staticlib/libbench.a
         rm -f $out/pipe
         mkfifo $out/pipe
-        awk '/^Trace/ { c[$NF]++; t++ } END { for (k in c) print k, c[k]; print "(total)", t }' $out/pipe | sort >$out/$k.txt &
+        awk '/^Trace/ { c[$NF]++ } END { for (k in c) print k, c[k] }' $out/pipe | sort >$out/$k.txt &
         "$emu" $one -d exec,nochain -D $out/pipe $out/bench$k || { echo "count: bench failed" >&2; exit 1; }
         wait $!
     done
+    # what stands around the rounds, and the copy by which plain C begins each at the same state, is left out
+    join -a 2 -e 0 -o 0,1.2,2.2 $out/$n.txt $out/$((2 * n)).txt | awk -v n="$n" -v who="$2" '
+        $1 == "bench" || $1 == "rounds" || $1 == "bench_rounds" { next }
+        who == "plain C" && $1 == "memcpy" { next }
+        $3 > $2 { v = ($3 - $2) / n; t += v; printf "        %-36s %12.1f\n", $1, v }
+        END { printf "    %-40s %12.1f\n", who, t }'
+}
+kind() { # kind KIND NAME
     echo "$2"
-    join -a 2 -e 0 -o 0,1.2,2.2 $out/$n.txt $out/$((2 * n)).txt | awk -v n="$n" '$3 > $2 { printf "    %-40s %10.1f\n", $1, ($3 - $2) / n }'
+    count $1 library ""
+    count $1 "plain C" -DPLAIN
 }
 kind 0 'send into a buffer of one'
 kind 1 'receive from a buffer of one'
 kind 2 'select of 8 cases, the last one ready'
 kind 3 'close that wakes 15'
 kind 4 'send as a whole turn, image of 4 rows'
-N=2; n=2
+n=1
 kind 5 'send as a whole turn, image of 1,024 rows'
 kind 6 'check of an image of 1,024 rows'
 kind 7 'translation of 16,384 bytes, depth 0'
