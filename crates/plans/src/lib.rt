@@ -53,7 +53,8 @@ pub fn hand(s: State, me: Task, x: TaskState, c: Chan, v: u16, next: Row, w: Tas
     ensures { λ r. ⌜ r ≡ handPlan s me x c v next w on ⌝ }
 {
     let at = (w.0 % 16) as usize;
-    let y = got(s.tasks[at], v, true, on);
+    let tasks = s.tasks;
+    let y = got(tasks[at], v, true, on);
     waking(quiet(s, me, went(x, next), Event::Handed(c, v, w)), w, y)
 }
 
@@ -116,7 +117,8 @@ pub fn refill(
     ensures { λ r. ⌜ r ≡ refillPlan s me x c hit v k w o on ⌝ }
 {
     let at = (w.0 % 16) as usize;
-    let y = s.tasks[at];
+    let tasks = s.tasks;
+    let y = tasks[at];
     let sent = payload_of(o, y.register);
     let taken = quiet(s, me, got(x, v, true, hit), Event::Refilled(c, v, w));
     waking(
@@ -131,7 +133,8 @@ pub fn receive(s: State, me: Task, x: TaskState, c: Chan, hit: Row, w: Task, o: 
     ensures { λ r. ⌜ r ≡ receivePlan s me x c hit w o on ⌝ }
 {
     let at = (w.0 % 16) as usize;
-    let y = s.tasks[at];
+    let tasks = s.tasks;
+    let y = tasks[at];
     let sent = payload_of(o, y.register);
     waking(
         quiet(s, me, got(x, sent, true, hit), Event::Received(c, sent, w)),

@@ -10,7 +10,8 @@ use lib.Seq.{drop-cons, getD-take}
 use Rattle.meaning.specs.declared.Task.{Task}
 use Rattle.meaning.specs.declared.Chan.{Chan}
 use Rattle.meaning.specs.declared.Row.{Row}
-use Rattle.meaning.specs.declared.Otherwise.{Otherwise}
+use Rattle.meaning.specs.declared.Op.{Op}
+use Rattle.meaning.specs.declared.Op.the-variants.{Send, Forward, Recv}
 use Rattle.meaning.specs.declared.Port.the-variants.{On}
 use Rattle.meaning.specs.Numbers.{closeUnderSender}
 use Rattle.meaning.specs.Image.{rowNo}
@@ -21,8 +22,9 @@ use Rattle.state.specs.declared.State.{State}
 use Rattle.state.specs.Cells.{keep}
 use Rattle.state.specs.State.{Values, applied}
 use Rattle.waiters.specs.declared.Side.the-variants.{Receiving}
+use Rattle.waiters.specs.declared.Offer.the-variants.{Nothing}
 use Rattle.waiters.specs.Waiters.{caseOffer, waitsAt, one}
-use Rattle.rules.specs.Rules.{wokenAll, wokenBy, wokenTasks, closeOn, noCase, takeOffer, choose}
+use Rattle.rules.specs.Rules.{wokenAll, wokenBy, wokenTasks, closeOn, exchangeOf, exchanged, attempt, chosenOf}
 use Rattle.plans.specs.Plans.{failPlan, shutPlan}
 
 -- CLOSE
@@ -70,14 +72,22 @@ module _ (p : ℕ → Bool) (k i n : ℕ) (h : i < k) where
   pub kept-past : (j : ℕ) → p (n + i) ≡ false → getD (keep p (listed (λ j. j) (k - i) (n + i))) j 0 ≡ getD (keep p (listed (λ j. j) (k - (i + 1)) (n + (i + 1)))) j 0
   kept-past j e = rw (listed-step k i n h, e)
 
-module _ (rs : List ℕ) (rows : ℕ) (s : State) (b : Values) (me : Task) (x : TaskState) (e : Otherwise) (choice : ℕ) where
-  pub choose-some : (ns : List ℕ) → (length ns ≡ 0 → ⊥) → choose rs rows s b me x ns e choice ≡ takeOffer rs rows s b me x (caseOffer (rowsIn rs (rowNo (getD ns (choice % length ns) 0))))
-  choose-some [] h = absurd (h refl)
-  choose-some (n ∷ ns) h = refl
+-- The case taken, by the number of ready ones.
+module _ (rs : List ℕ) (rows : ℕ) (s : State) (choice : ℕ) where
+  pub chosen-some : (ns : List ℕ) → (length ns ≡ 0 → ⊥) → chosenOf rs rows s ns choice ≡ caseOffer (rowsIn rs (rowNo (getD ns (choice % length ns) 0)))
+  chosen-some [] h = absurd (h refl)
+  chosen-some (n ∷ ns) h = refl
 
-  pub choose-none : (ns : List ℕ) → length ns ≡ 0 → choose rs rows s b me x ns e choice ≡ noCase s me x e
-  choose-none [] h = refl
-  choose-none (n ∷ ns) h = absurd (omega arith)
+  pub chosen-none : (ns : List ℕ) → length ns ≡ 0 → chosenOf rs rows s ns choice ≡ Nothing
+  chosen-none [] h = refl
+  chosen-none (n ∷ ns) h = absurd (omega arith)
+
+-- OPERATIONS
+
+pub attempt-is : (rs : List ℕ) (rows : ℕ) (s : State) (b : Values) (me : Task) (x : TaskState) (o : Op) (hit miss : Row) → exchanged rs rows s b me x (exchangeOf o (x .register)) hit miss ≡ attempt rs rows s b me x o hit miss
+attempt-is rs rows s b me x (Send p v) hit miss = refl
+attempt-is rs rows s b me x (Forward p) hit miss = refl
+attempt-is rs rows s b me x (Recv p) hit miss = refl
 
 pub zero-plus : (n : ℕ) → n ≡ 0 + n
 zero-plus n = omega arith

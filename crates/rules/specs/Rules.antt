@@ -31,6 +31,8 @@ use Rattle.waiters.specs.declared.Offer.the-variants.{Nothing, By}
 use Rattle.waiters.specs.declared.Found.{Found}
 use Rattle.waiters.specs.declared.Found.the-variants.{Nobody, At}
 use Rattle.waiters.specs.Waiters.{caseOffer, isOffer, waitsAt, firstWaiter, countWaiters}
+use Rattle.rules.specs.declared.Exchange.{Exchange}
+use Rattle.rules.specs.declared.Exchange.the-variants.{Gives, Gets}
 use Rattle.plans.specs.Plans.{branchPlan, failPlan, waitPlan, handPlan, appendPlan, takePlan, refillPlan, receivePlan, drainPlan, shutPlan}
 
 -- WHAT A RULE ASKS: the mover `me` stands as x in the state s.
@@ -81,6 +83,16 @@ module _ (rs : List ℕ) (rows : ℕ) (s : State) (b : Values) (me : Task) (x : 
   attempt (Send p v) hit miss = sendTo rs rows s me x p v hit
   attempt (Forward p) hit miss = sendTo rs rows s me x p (x .register) hit
   attempt (Recv p) hit miss = receiveFrom rs s b me x p hit miss
+
+  -- The same by what the operation gives or gets.
+  abbrev pub exchanged : Exchange → Row → Row → Option Plan
+  exchanged (Gives p v) hit miss = sendTo rs rows s me x p v hit
+  exchanged (Gets p) hit miss = receiveFrom rs s b me x p hit miss
+
+abbrev pub exchangeOf : Op → ℕ → Exchange
+exchangeOf (Send p v) register = Gives p v
+exchangeOf (Forward p) register = Gives p register
+exchangeOf (Recv p) register = Gets p
 
 -- CLOSE
 
@@ -164,6 +176,14 @@ module _ (rs : List ℕ) (rows : ℕ) (s : State) where
   -- The rows of the ready cases among k case rows from row i on.
   unfoldable pub readyRows : ℕ → ℕ → List ℕ
   readyRows k i = keep rowReady (listed (λ n. n) k i)
+
+  -- The case that is taken, by the rows of the ready cases and the choice.
+  abbrev pub chosenOf : List ℕ → ℕ → Offer
+  chosenOf [] choice = Nothing
+  chosenOf (r ∷ rs′) choice = caseOffer (rowsIn rs (rowNo (getD (r ∷ rs′) (choice % length (r ∷ rs′)) 0)))
+
+  unfoldable pub chosenCase : ℕ → ℕ → ℕ → Offer
+  chosenCase k i choice = chosenOf (readyRows k i) choice
 
 module _ (s : State) (me : Task) (x : TaskState) where
   abbrev pub noCase : Otherwise → Plan

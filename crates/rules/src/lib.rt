@@ -3,3 +3,11 @@
 pub mod closing;
 pub mod ops;
 pub mod select;
+
+use meaning::Port;
+
+// An operation as the task that makes it sees it: it gives a value or gets one. Send and forward are one from here on.
+pub enum Exchange {
+    Gives(Port, u16),
+    Gets(Port),
+}

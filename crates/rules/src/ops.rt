@@ -5,7 +5,8 @@ ghost use Prim.Native.Nat.{_<_};
 ghost use lib.Dec.{ltb};
 ghost use Rattle.meaning.specs.Bytes.{capacityIn};
 ghost use Rattle.waiters.specs.declared.Found.the-variants.{Nobody};
-ghost use Rattle.rules.specs.Rules.{orWait, sendOn, sendsOn, sendTo, receiveOn, receivesOn, receiveFrom, attempt};
+ghost use Rattle.rules.specs.Rules.{orWait, sendOn, sendsOn, sendTo, receiveOn, receivesOn, receiveFrom, exchangeOf, exchanged, attempt};
+use crate::Exchange;
 use meaning::Chan;
 use meaning::Op;
 use meaning::Port;
@@ -81,22 +82,14 @@ fn send_on(
     ensures { λ r. ⌜ r ≡ orWait s me x (sendsOn (now (body .entry)) rows s me x c v next) ⌝ }
 {
     let at = (c.0 % 16) as usize;
-    let k = s.chans[at];
+    let chans = s.chans;
+    let k = chans[at];
     if k.closed {
         fail(s, me, x, 1, Port::On(c))
     } else {
         let capacity = capacity_in(body, rows, c.0 as u16);
-        send_to_whom(
-            s,
-            me,
-            x,
-            c,
-            v,
-            next,
-            k,
-            capacity,
-            first_waiter(body, s, Side::Receiving, c),
-        )
+        let f = first_waiter(body, s, Side::Receiving, c);
+        send_to_whom(s, me, x, c, v, next, k, capacity, f)
     }
 }
 
@@ -191,7 +184,8 @@ fn receive_on(
     ensures { λ r. ⌜ r ≡ orWait s me x (receivesOn (now (body .entry)) s (now (values .entry)) me x c hit miss) ⌝ }
 {
     let at = (c.0 % 16) as usize;
-    let k = s.chans[at];
+    let chans = s.chans;
+    let k = chans[at];
     let v = oldest_in(values, c);
     let f = first_waiter(body, s, Side::Sending, c);
     if 0 < k.len {
@@ -219,6 +213,36 @@ fn receive_port(
     }
 }
 
+// What an operation asks of the task's register: the value it gives, a forward the register's own.
+fn exchange_of(o: Op, register: u16) -> Exchange
+    ensures { λ r. ⌜ r ≡ exchangeOf o register ⌝ }
+{
+    match o {
+        Op::Send(p, v) => Exchange::Gives(p, v),
+        Op::Forward(p) => Exchange::Gives(p, register),
+        Op::Recv(p) => Exchange::Gets(p),
+    }
+}
+
+fn exchange(
+    body: &[u8],
+    rows: u16,
+    s: State,
+    values: &[[u16; 16]; 16],
+    me: Task,
+    x: TaskState,
+    e: Exchange,
+    hit: Row,
+    miss: Row,
+) -> Plan
+    ensures { λ r. ⌜ r ≡ orWait s me x (exchanged (now (body .entry)) rows s (now (values .entry)) me x e hit miss) ⌝ }
+{
+    match e {
+        Exchange::Gives(p, v) => send_port(body, rows, s, me, x, p, v, hit),
+        Exchange::Gets(p) => receive_port(body, s, values, me, x, p, hit, miss),
+    }
+}
+
 // One operation, which leads to `hit`, or to `miss` from a receive with ok off.
 pub fn do_op(
     body: &[u8],
@@ -233,9 +257,6 @@ pub fn do_op(
 ) -> Plan
     ensures { λ r. ⌜ r ≡ orWait s me x (attempt (now (body .entry)) rows s (now (values .entry)) me x o hit miss) ⌝ }
 {
-    match o {
-        Op::Send(p, v) => send_port(body, rows, s, me, x, p, v, hit),
-        Op::Forward(p) => send_port(body, rows, s, me, x, p, x.register, hit),
-        Op::Recv(p) => receive_port(body, s, values, me, x, p, hit, miss),
-    }
+    let e = exchange_of(o, x.register);
+    exchange(body, rows, s, values, me, x, e, hit, miss)
 }

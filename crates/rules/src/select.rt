@@ -7,8 +7,7 @@ ghost use lib.ListN.{length, getD};
 ghost use Rattle.state.specs.State.{chanIn};
 ghost use Rattle.waiters.specs.declared.Side.the-variants.{Receiving, Sending};
 ghost use Rattle.waiters.specs.Waiters.{firstWaiter};
-ghost use Rattle.rules.specs.Rules.{hasRoom, canSend, canReceive, sendReady, receiveReady, opReady, offerReady, rowReady, readyRows, takeOffer, noCase, selected};
-use crate::ops::do_op;
+ghost use Rattle.rules.specs.Rules.{hasRoom, canSend, canReceive, sendReady, receiveReady, opReady, offerReady, rowReady, readyRows, noCase, chosenCase};
 use meaning::Chan;
 use meaning::Op;
 use meaning::Otherwise;
@@ -50,7 +49,8 @@ fn can_send_on(body: &[u8], rows: u16, s: State, c: Chan) -> bool
     ensures { λ r. ⌜ r ≡ canSend (chanIn (s .chans) c .closed) (firstWaiter (now (body .entry)) s Receiving c) (hasRoom (now (body .entry)) rows s c) ⌝ }
 {
     let at = (c.0 % 16) as usize;
-    let k = s.chans[at];
+    let chans = s.chans;
+    let k = chans[at];
     if k.closed {
         true
     } else {
@@ -72,7 +72,8 @@ fn can_receive_on(body: &[u8], s: State, c: Chan) -> bool
     ensures { λ r. ⌜ r ≡ canReceive (ltb 0 (chanIn (s .chans) c .len)) (firstWaiter (now (body .entry)) s Sending c) (chanIn (s .chans) c .closed) ⌝ }
 {
     let at = (c.0 % 16) as usize;
-    let k = s.chans[at];
+    let chans = s.chans;
+    let k = chans[at];
     if 0 < k.len {
         true
     } else {
@@ -112,7 +113,8 @@ fn offer_ready(body: &[u8], rows: u16, s: State, f: Offer) -> bool
 fn row_ready(body: &[u8], rows: u16, s: State, n: u32) -> bool
     ensures { λ r. ⌜ r ≡ rowReady (now (body .entry)) rows s n ⌝ }
 {
-    offer_ready(body, rows, s, case_offer(statement_at(body, n)))
+    let f = case_offer(statement_at(body, n));
+    offer_ready(body, rows, s, f)
 }
 
 fn count_ready(body: &[u8], rows: u16, s: State, k: u8, row: Row) -> u8
@@ -151,24 +153,8 @@ fn nth_ready(body: &[u8], rows: u16, s: State, k: u8, row: Row, nth: u8) -> u32
     0
 }
 
-fn take_offer(
-    body: &[u8],
-    rows: u16,
-    s: State,
-    values: &[[u16; 16]; 16],
-    me: Task,
-    x: TaskState,
-    f: Offer,
-) -> Plan
-    ensures { λ r. ⌜ r ≡ takeOffer (now (body .entry)) rows s (now (values .entry)) me x f ⌝ }
-{
-    match f {
-        Offer::Nothing => wait(s, me, x),
-        Offer::By(o, hit, miss) => do_op(body, rows, s, values, me, x, o, hit, miss),
-    }
-}
-
-fn no_case(s: State, me: Task, x: TaskState, e: Otherwise) -> Plan
+// What a select without a ready case does.
+pub fn no_case(s: State, me: Task, x: TaskState, e: Otherwise) -> Plan
     ensures { λ r. ⌜ r ≡ noCase s me x e ⌝ }
 {
     match e {
@@ -177,33 +163,14 @@ fn no_case(s: State, me: Task, x: TaskState, e: Otherwise) -> Plan
     }
 }
 
-pub fn select(
-    body: &[u8],
-    rows: u16,
-    s: State,
-    values: &[[u16; 16]; 16],
-    me: Task,
-    x: TaskState,
-    k: u8,
-    e: Otherwise,
-    choice: u8,
-) -> Plan
-    ensures { λ r. ⌜ r ≡ selected (now (body .entry)) rows s (now (values .entry)) me x k e choice ⌝ }
+// The case that a select with the choice takes, nothing where none is ready.
+pub fn chosen_case(body: &[u8], rows: u16, s: State, k: u8, row: Row, choice: u8) -> Offer
+    ensures { λ r. ⌜ r ≡ chosenCase (now (body .entry)) rows s k (row .0 + 1) choice ⌝ }
 {
-    let row = x.row;
     let n = count_ready(body, rows, s, k, row);
     if n == 0 {
-        no_case(s, me, x, e)
-    } else {
-        let chosen = nth_ready(body, rows, s, k, row, choice % n);
-        take_offer(
-            body,
-            rows,
-            s,
-            values,
-            me,
-            x,
-            case_offer(statement_at(body, chosen)),
-        )
+        return Offer::Nothing;
     }
+    let chosen = nth_ready(body, rows, s, k, row, choice % n);
+    case_offer(statement_at(body, chosen))
 }

@@ -100,9 +100,10 @@ lineAfter o n me (Leave t) = Line·of (keep (other t) (take (n % 17) o))
 
 -- APPLYING A PLAN
 
-abbrev pub planned : State → Task → Plan → State
-planned s me p = record {
-  tasks = set (set (s .tasks) (me .0 % 16) (p .mover)) (p .partner .0 % 16) (p .woken);
+-- The state after a plan whose tasks' records are already put.
+abbrev pub plannedWith : State → List TaskState → Task → Plan → State
+plannedWith s xs me p = record {
+  tasks = xs;
   chans = set (s .chans) (p .chan .0 % 16) (p .channel);
   order = lineAfter (s .order) (s .waiting) me (p .queue) .order;
   waiting = lineAfter (s .order) (s .waiting) me (p .queue) .n;
@@ -112,6 +113,12 @@ planned s me p = record {
   named = p .named;
   stamp = (s .stamp + 1) % stampModulus;
 }
+
+abbrev pub settled : State → List TaskState → Task → Plan → Turned
+settled s xs me p = record { event = p .event; state = plannedWith s xs me p; change = p .change }
+
+abbrev pub planned : State → Task → Plan → State
+planned s me p = plannedWith s (set (set (s .tasks) (me .0 % 16) (p .mover)) (p .partner .0 % 16) (p .woken)) me p
 
 abbrev pub applied : State → Task → Plan → Turned
 applied s me p = record { event = p .event; state = planned s me p; change = p .change }

@@ -1,11 +1,11 @@
-// The machine's state, by value, and the one function that changes it. The rules above decide what a turn does and answer a
-// small plan; `apply` makes it so, in one place and without a branch around an update, so that a turn copies the state once.
+// The machine's state, by value, and the functions that change it. The rules above decide what a turn does and answer a small
+// plan; `apply` makes it so, without a branch around an update. A turn copies the tasks' records in and out, and nothing between.
 // Task and channel numbers index by their remainder, so that every function here answers every value.
 ghost use mathlib.Core.Path.{_≡_};
 ghost use Prim.Native.Nat.{_≤_};
 ghost use lib.ListN.{take};
 ghost use Rattle.state.specs.Cells.{keep};
-ghost use Rattle.state.specs.State.{gotTask, wentTask, stoodTask, lapTask, lapOf, chanIn, Line·of, other, joinedLine, lineAfter, applied, quietPlan, wakingPlan, storingPlan, joiningPlan, haltingPlan};
+ghost use Rattle.state.specs.State.{gotTask, wentTask, stoodTask, lapTask, lapOf, chanIn, Line·of, other, joinedLine, lineAfter, settled, applied, quietPlan, wakingPlan, storingPlan, joiningPlan, haltingPlan};
 
 pub mod values;
 
@@ -31,14 +31,15 @@ pub struct ChanState {
 }
 
 // `order` holds the waiting tasks, longest first, in its first `waiting` cells. `fault` is 0 while the machine runs, and
-// `named` the task that a fault names.
+// `named` the task that a fault names. A count stands behind each array: with numbers between them the compiler copies each
+// array by itself, and only where it is needed.
 pub struct State {
     pub tasks: [TaskState; 16],
+    pub taskcount: u8,
     pub chans: [ChanState; 16],
+    pub chancount: u8,
     pub order: [Task; 16],
     pub waiting: u8,
-    pub taskcount: u8,
-    pub chancount: u8,
     pub fault: u8,
     pub named: Task,
     pub stamp: u16,
@@ -333,35 +334,51 @@ fn line_after(order: [Task; 16], n: u8, me: Task, queue: Queue) -> Line
     }
 }
 
-// The turn that a plan describes, made by `me`: the state is changed here and nowhere else.
-pub fn apply(mut s: State, me: Task, p: Plan) -> Turned
-    ensures { λ r. ⌜ r ≡ applied s me p ⌝ }
+// The turn that a plan describes, made by `me`, with the tasks' records after it. Each array is changed by itself and the state
+// made anew, so that the compiler moves one array at a time.
+pub fn settle(s: State, tasks: [TaskState; 16], me: Task, p: Plan) -> Turned
+    ensures { λ r. ⌜ r ≡ settled s tasks me p ⌝ }
 {
-    let i = (me.0 % 16) as usize;
-    let mover = p.mover;
-    s.tasks[i] = mover;
-    let j = (p.partner.0 % 16) as usize;
-    let woken = p.woken;
-    s.tasks[j] = woken;
+    let mut chans = s.chans;
     let k = (p.chan.0 % 16) as usize;
     let channel = p.channel;
-    s.chans[k] = channel;
+    chans[k] = channel;
     let order = s.order;
     let queue = p.queue;
     let line = line_after(order, s.waiting, me, queue);
     let after = line.order;
-    s.order = after;
-    s.waiting = line.n;
-    s.fault = p.fault;
     let named = p.named;
-    s.named = named;
     let stamp = s.stamp;
-    s.stamp = std::num::wrapping_add_u16(stamp, 1);
+    let state = State {
+        tasks: tasks,
+        taskcount: s.taskcount,
+        chans: chans,
+        chancount: s.chancount,
+        order: after,
+        waiting: line.n,
+        fault: p.fault,
+        named: named,
+        stamp: std::num::wrapping_add_u16(stamp, 1),
+    };
     let event = p.event;
     let change = p.change;
     Turned {
         event: event,
-        state: s,
+        state: state,
         change: change,
     }
+}
+
+// The turn that a plan describes, made by `me`.
+pub fn apply(s: State, me: Task, p: Plan) -> Turned
+    ensures { λ r. ⌜ r ≡ applied s me p ⌝ }
+{
+    let mut tasks = s.tasks;
+    let i = (me.0 % 16) as usize;
+    let mover = p.mover;
+    tasks[i] = mover;
+    let j = (p.partner.0 % 16) as usize;
+    let woken = p.woken;
+    tasks[j] = woken;
+    settle(s, tasks, me, p)
 }

@@ -20,7 +20,11 @@ use Rattle.state.specs.declared.Plan.{Plan}
 use Rattle.state.specs.declared.Turned.{Turned}
 use Rattle.state.specs.State.{Values, taskIn, lapOf, lapTask, applied}
 use Rattle.plans.specs.Plans.{branchPlan, endPlan}
-use Rattle.rules.specs.Rules.{orWait, attempt, closePort, selected}
+use Rattle.waiters.specs.declared.Offer.{Offer}
+use Rattle.waiters.specs.declared.Offer.the-variants.{Nothing, By}
+use Rattle.rules.specs.Rules.{orWait, attempt, closePort, noCase, chosenCase, selected}
+use Rattle.step.specs.declared.Closing.{Closing}
+use Rattle.step.specs.declared.Closing.the-variants.{Not, Of}
 
 -- THE TURN
 
@@ -30,6 +34,46 @@ module _ (s : State) (me : Task) (x : TaskState) where
 
   abbrev pub asked : Row → Row → Plan
   asked first second = branchPlan s me x (cond (x .ok) first second)
+
+-- WHAT A STATEMENT COMES TO: a close, an operation, its own or that of a select's chosen case, or neither
+
+abbrev pub closingOf : Statement → Closing
+closingOf (Do o n) = Not
+closingOf (Close p n) = Of p n
+closingOf (Range p n a) = Not
+closingOf (Repeat d k n a) = Not
+closingOf (Ifok n a) = Not
+closingOf (Select k e) = Not
+closingOf (Case o n) = Not
+closingOf Stop = Not
+
+module _ (rs : List ℕ) (rows : ℕ) (s : State) where
+  -- `first` is the row behind the statement's own, where a select's cases begin.
+  abbrev pub offerOf : ℕ → ℕ → Statement → Offer
+  offerOf first choice (Do o n) = By o n n
+  offerOf first choice (Close p n) = Nothing
+  offerOf first choice (Range p n a) = By (Recv p) n a
+  offerOf first choice (Repeat d k n a) = Nothing
+  offerOf first choice (Ifok n a) = Nothing
+  offerOf first choice (Select k e) = chosenCase rs rows s k first choice
+  offerOf first choice (Case o n) = Nothing
+  offerOf first choice Stop = Nothing
+
+module _ (s : State) (me : Task) (x : TaskState) where
+  abbrev pub planAlone : Statement → Plan
+  planAlone (Do o n) = endPlan s me x
+  planAlone (Close p n) = endPlan s me x
+  planAlone (Range p n a) = endPlan s me x
+  planAlone (Repeat d k n a) = repeated s me x d k n a
+  planAlone (Ifok n a) = asked s me x n a
+  planAlone (Select k e) = noCase s me x e
+  planAlone (Case o n) = endPlan s me x
+  planAlone Stop = endPlan s me x
+
+module _ (rs : List ℕ) (rows : ℕ) (s : State) (b : Values) (me : Task) (x : TaskState) (st : Statement) where
+  abbrev pub planOf : Offer → Plan
+  planOf Nothing = planAlone s me x st
+  planOf (By o hit miss) = orWait s me x (attempt rs rows s b me x o hit miss)
 
 abbrev pub refusedTurn : State → ℕ → Turned
 refusedTurn s n = record { event = Refused n; state = s; change = Keep }

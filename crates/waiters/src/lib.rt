@@ -142,16 +142,21 @@ pub fn matched_at(body: &[u8], side: Side, c: Chan, row: Row) -> Offer
     matched_by(body, side, c, row, statement_at(body, row.0 as u32))
 }
 
-// The task that has waited longest on this side of the channel.
+// The task that has waited longest on this side of the channel. Where nobody waits, which is asked first, no task is copied.
 pub fn first_waiter(body: &[u8], s: State, side: Side, c: Chan) -> Found
     ensures { λ r. ⌜ r ≡ firstWaiter (now (body .entry)) s side c ⌝ }
 {
     let n = (s.waiting % 17) as usize;
+    if n == 0 {
+        return Found::Nobody;
+    }
+    let order = s.order;
+    let tasks = s.tasks;
     let mut i = 0;
     while i < n {
-        let t = s.order[i];
+        let t = order[i];
         let k = (t.0 % 16) as usize;
-        let x = s.tasks[k];
+        let x = tasks[k];
         let row = x.row;
         let f = matched_at(body, side, c, row);
         i = i + 1;

@@ -1,17 +1,15 @@
+use Rattle.rules.proofs.Laws.{attempt-is}
+use Rattle.rules.specs.Rules.{orWait}
+use denote.Ref.{now}
+use mathlib.Core.Path.{ap, _∙_}
 use borrow.Author.Needs.{needs}
 use Rattle.rules.proofs.ops.do_op.Statement.{statement}
 use Rattle.rules.proofs.ops.do_op.Tie as tie
 
+returns : tie.Need-returns
+returns c =
+    let a = c .before .before .before .args in
+    rw (c .exchange .ensures, c .before .exchange-of .ensures) (ap (orWait (a .s) (a .me) (a .x)) (attempt-is (now (a .body)) (a .rows) (a .s) (now (a .values)) (a .me) (a .x) (a .o) (a .hit) (a .miss)))
+
 pub do-op-spec : {M : Type 1} → statement M
-do-op-spec =
-    tie.close
-    (tie.spec
-    (λ c. search needs)
-    (λ c κs. search needs)
-    (λ c. search needs)
-    (λ c κs. search needs)
-    (λ c. search needs)
-    (λ c κs. search needs)
-    (λ c. rw (c .before .before .o .given .1, c .send-port .ensures))
-    (λ c. rw (c .before .before .o2 .given .1, c .send-port2 .ensures))
-    (λ c. rw (c .before .before .o3 .given .1, c .receive-port .ensures)))
+do-op-spec = tie.close (tie.spec (λ c κs. search needs) (λ c κs. search needs) returns)
