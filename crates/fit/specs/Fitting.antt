@@ -16,6 +16,7 @@ use Rattle.meaning.specs.Bytes.{rowsIn, capacityIn}
 use Rattle.rows.specs.declared.Counts.{Counts}
 use Rattle.image.specs.Check.{isTarget}
 use Rattle.laws.specs.Fits.{times, mark}
+use Rattle.state.specs.declared.TaskState.{TaskState}
 use Rattle.state.specs.declared.State.{State}
 use Rattle.state.specs.State.{noTask, noChan, orderOf}
 
@@ -54,12 +55,12 @@ nameFits k s i = ltb (getD (s .order) (i % 16) (taskNo 0) .0) (k .tasks)
 
 -- rs is the image from row 0 on, k its counts.
 module _ (rs : List ℕ) (k : Counts) (s : State) where
-  -- "each task's row is a row and no case row", "the order names exactly the waiting tasks, once each"
+  -- "each task's row is a row and no case row", "the order names exactly the waiting tasks, once each": task i stands as x
+  abbrev pub recordFits : TaskState → ℕ → Bool
+  recordFits x i = isTarget rs (k .rows) (x .row) && (eqb (times (taskNo i) (orderOf s)) (mark (x .status)) && placeFits (x .status) (rowsIn rs (x .row)))
+
   unfoldable pub taskFits : ℕ → Bool
-  taskFits i =
-      isTarget rs (k .rows) (getD (s .tasks) (i % 16) noTask .row)
-      && (eqb (times (taskNo i) (orderOf s)) (mark (getD (s .tasks) (i % 16) noTask .status))
-      && placeFits (getD (s .tasks) (i % 16) noTask .status) (rowsIn rs (getD (s .tasks) (i % 16) noTask .row)))
+  taskFits i = recordFits (getD (s .tasks) (i % 16) noTask) i
 
   -- "each length is at most its capacity"
   unfoldable pub lengthFits : ℕ → Bool

@@ -2,7 +2,7 @@
 // the image from row 0 on and `k` its counts.
 ghost use mathlib.Core.Path.{_≡_};
 ghost use mathlib.Core.Bool.{_&&_};
-ghost use Rattle.fit.specs.Fitting.{every, noDefault, canWait, placeFits, taskFits, lengthFits, nameFits, fitting};
+ghost use Rattle.fit.specs.Fitting.{every, noDefault, canWait, placeFits, recordFits, taskFits, lengthFits, nameFits, fitting};
 ghost use Rattle.laws.specs.Fits.{times, mark};
 ghost use Rattle.state.specs.State.{orderOf};
 use image::row::is_target;
@@ -14,6 +14,7 @@ use rows::Counts;
 use rows::table::capacity_in;
 use rows::table::statement_at;
 use state::State;
+use state::TaskState;
 
 fn no_default(e: Otherwise) -> bool
     ensures { λ r. ⌜ r ≡ noDefault e ⌝ }
@@ -65,10 +66,11 @@ fn times_in(s: State, t: u8) -> u8
     ensures { λ r. ⌜ r ≡ times (record { 0 = t }) (orderOf s) ⌝ }
 {
     let n = (s.waiting % 17) as usize;
+    let order = s.order;
     let mut i = 0;
     let mut w: u8 = 0;
     while i < n {
-        let u = s.order[i];
+        let u = order[i];
         i = i + 1;
         if t == u.0 {
             w = w + 1;
@@ -77,11 +79,10 @@ fn times_in(s: State, t: u8) -> u8
     w
 }
 
-fn task_fits(body: &[u8], k: Counts, s: State, i: u8) -> bool
-    ensures { λ r. ⌜ r ≡ taskFits (now (body .entry)) k s i ⌝ }
+// Whether task number i, which stands as x, fits.
+fn task_fits(body: &[u8], k: Counts, s: State, x: TaskState, i: u8) -> bool
+    ensures { λ r. ⌜ r ≡ recordFits (now (body .entry)) k s x i ⌝ }
 {
-    let at = (i % 16) as usize;
-    let x = s.tasks[at];
     let row = x.row;
     let status = x.status;
     if is_target(body, k.rows, row) {
@@ -97,9 +98,12 @@ fn tasks_fit(body: &[u8], k: Counts, s: State) -> bool
     ensures { λ r. ⌜ r ≡ every (taskFits (now (body .entry)) k s) (k .tasks) 0 ⌝ }
 {
     let n = k.tasks;
+    let tasks = s.tasks;
     let mut i: u8 = 0;
     while i < n {
-        if task_fits(body, k, s, i) {
+        let at = (i % 16) as usize;
+        let x = tasks[at];
+        if task_fits(body, k, s, x, i) {
             i = i + 1;
         } else {
             return false;

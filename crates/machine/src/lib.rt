@@ -148,15 +148,15 @@ fn turn_after(
     ensures { λ r. ⌜ r ≡ turnedAfter (now (body .entry)) k s values task choice answer ⌝ }
 {
     match answer {
-        Checked::Good => {
-            if fits(body, k, s) {
-                step(body, k.rows, s, &values, task, choice)
-            } else {
-                refuse(s, 17)
-            }
+        Checked::Refused(n, _) => {
+            return refuse(s, n);
         }
-        Checked::Refused(n, _) => refuse(s, n),
+        Checked::Good => {}
     }
+    if fits(body, k, s) {
+        return step(body, k.rows, s, &values, task, choice);
+    }
+    refuse(s, 17)
 }
 
 // One turn of a task with a choice: the event, the state after it, and what it does to the values. Refused by the image check's
