@@ -1,8 +1,8 @@
 -- One step of each loop, and the clauses of a table that a count picks. Assumes nothing.
-use mathlib.Core.Path.{_≡_, refl}
-use mathlib.Core.Bool.{Bool, true, false}
+use mathlib.Core.Path.{_≡_, refl, sym, ap, _∙_}
+use mathlib.Core.Bool.{Bool, true, false, not}
 use mathlib.Core.List.{List, [], _∷_}
-use Prim.Native.Nat.{ℕ, zero, suc, _+_, _-_, _%_, _<_}
+use Prim.Native.Nat.{ℕ, zero, suc, _+_, _-_, _%_, _<_, _≤_}
 use native.Mathlib.Numerals.{add-one}
 use native.Mathlib.Omega.{arith}
 use lib.ListN.{length, getD, take, drop, length-take}
@@ -13,18 +13,21 @@ use Rattle.meaning.specs.declared.Row.{Row}
 use Rattle.meaning.specs.declared.Op.{Op}
 use Rattle.meaning.specs.declared.Op.the-variants.{Send, Forward, Recv}
 use Rattle.meaning.specs.declared.Port.the-variants.{On}
+use Rattle.meaning.specs.declared.Event.the-variants.{Closed}
 use Rattle.meaning.specs.Numbers.{closeUnderSender}
 use Rattle.meaning.specs.Image.{rowNo}
 use Rattle.meaning.specs.Bytes.{rowsIn, listed}
 use Rattle.state.specs.declared.TaskState.{TaskState}
 use Rattle.state.specs.declared.ChanState.{ChanState}
 use Rattle.state.specs.declared.State.{State}
-use Rattle.state.specs.Cells.{keep}
-use Rattle.state.specs.State.{Values, applied}
+use Rattle.state.specs.declared.Turned.{Turned}
+use Rattle.state.specs.Cells.{consIf, keep, keep-length}
+use Rattle.state.specs.State.{Values, orderOf, applied}
 use Rattle.waiters.specs.declared.Side.the-variants.{Receiving}
+use Rattle.waiters.specs.declared.Offer.{Offer}
 use Rattle.waiters.specs.declared.Offer.the-variants.{Nothing}
-use Rattle.waiters.specs.Waiters.{caseOffer, waitsAt, one}
-use Rattle.rules.specs.Rules.{wokenAll, wokenBy, wokenTasks, closeOn, exchangeOf, exchanged, attempt, chosenOf}
+use Rattle.waiters.specs.Waiters.{caseOffer, isOffer, waitsAt, countOf, countWaiters, one}
+use Rattle.rules.specs.Rules.{idle, wokenAll, wokenBy, wokenTasks, withEvent, closeOn, exchangeOf, exchanged, attempt, chosenOf}
 use Rattle.plans.specs.Plans.{failPlan, shutPlan}
 
 -- CLOSE
@@ -37,6 +40,36 @@ module _ (rs : List ℕ) (s : State) (me : Task) (x : TaskState) (c : Chan) (nex
   pub close-under : (w : ℕ) → (w ≡ 0 → ⊥) → closeOn rs s me x c next k false 0 w ≡ applied s me (failPlan s me x closeUnderSender (On c))
   close-under zero h = absurd (h refl)
   close-under (suc n) h = refl
+
+-- A task of the order is woken or kept: what has left the order counts the receivers.
+woken-or-kept : (b : Bool) (t : Task) (l : List Task) (n m : ℕ) → n + length l ≡ m → one b + n + length (consIf (not b) t l) ≡ suc m
+woken-or-kept true t l n m h = omega (arith, h)
+woken-or-kept false t l n m h = omega (arith, h)
+
+counted : (f : Task → Offer) (ts : List Task) → countOf f ts + length (keep (λ t. not (isOffer (f t))) ts) ≡ length ts
+counted f [] = omega arith
+counted f (t ∷ ts) = woken-or-kept (isOffer (f t)) t (keep (λ u. not (isOffer (f u))) ts) (countOf f ts) (length ts) (counted f ts)
+
+module _ (rs : List ℕ) (s : State) (c : Chan) (full : length (s .order) ≡ 16) (u t : Turned) (woke : t ≡ wokenAll rs s c u) where
+  left-waiting : t .state .waiting ≡ length (keep (idle rs s c) (orderOf s))
+  left-waiting = ap (λ (v : Turned). v .state .waiting) woke
+
+  pub left-below : t .state .waiting ≤ s .waiting % 17
+  left-below = omega (arith, left-waiting, keep-length (idle rs s c) (orderOf s), length-take (s .waiting % 17) (s .order))
+
+  receivers-are : s .waiting % 17 - t .state .waiting ≡ countWaiters rs s Receiving c
+  unfolding countWaiters
+  receivers-are = omega (arith, full, left-waiting, counted (waitsAt rs s Receiving c) (orderOf s), length-take (s .waiting % 17) (s .order))
+
+  module _ (me : Task) (x : TaskState) (next : Row) (k : ChanState) (w r : ℕ) (e : r ≡ s .waiting % 17 - t .state .waiting) where
+    pub close-idly : r ≡ 0 → closeOn rs s me x c next k false 0 w ≡ closeOn rs s me x c next k false (countWaiters rs s Receiving c) w
+    close-idly z = ap (λ n. closeOn rs s me x c next k false n w) (sym z ∙ e ∙ receivers-are)
+
+    pub close-woken : u ≡ applied s me (shutPlan s me x c next k 0) → (r ≡ 0 → ⊥) → withEvent t (Closed c r) ≡ closeOn rs s me x c next k false (countWaiters rs s Receiving c) w
+    close-woken p z =
+        ap (λ v. withEvent v (Closed c r)) (woke ∙ ap (wokenAll rs s c) p)
+        ∙ sym (close-some rs s me x c next k r w z)
+        ∙ ap (λ n. closeOn rs s me x c next k false n w) (e ∙ receivers-are)
 
 pub woken-step : (rs : List ℕ) (s : State) (c : Chan) (o : List Task) (n i : ℕ) (d : Task) (xs : List TaskState) → i < n → i < length o
     → wokenTasks rs s c (drop i (take n o)) xs ≡ wokenTasks rs s c (drop (i + 1) (take n o)) (wokenBy rs s c (getD o i d) (waitsAt rs s Receiving c (getD o i d)) xs)

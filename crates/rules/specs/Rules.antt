@@ -13,6 +13,7 @@ use Rattle.meaning.specs.declared.Port.{Port}
 use Rattle.meaning.specs.declared.Port.the-variants.{Nil, On}
 use Rattle.meaning.specs.declared.Op.{Op}
 use Rattle.meaning.specs.declared.Op.the-variants.{Send, Forward, Recv}
+use Rattle.meaning.specs.declared.Event.{Event}
 use Rattle.meaning.specs.declared.Otherwise.{Otherwise}
 use Rattle.meaning.specs.declared.Otherwise.the-variants.{Wait, Go}
 use Rattle.meaning.specs.Numbers.{sendOnClosed, closeOfNil, closeOfClosed, closeUnderSender}
@@ -124,6 +125,9 @@ module _ (rs : List ℕ) (s : State) (c : Chan) where
 
   abbrev pub wokenAll : Turned → Turned
   wokenAll t = record { event = t .event; state = wokenState (t .state); change = t .change }
+
+abbrev pub withEvent : Turned → Event → Turned
+withEvent t e = record { event = e; state = t .state; change = t .change }
 
 module _ (rs : List ℕ) (s : State) (me : Task) (x : TaskState) where
   -- close of c, whose record is k: is it closed; how many wait to receive, and to send?

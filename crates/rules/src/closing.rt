@@ -4,8 +4,9 @@ ghost use mathlib.Core.Bool.{false};
 ghost use Rattle.state.specs.State.{chanIn, orderOf};
 ghost use Rattle.waiters.specs.declared.Side.the-variants.{Receiving, Sending};
 ghost use Rattle.waiters.specs.Waiters.{countWaiters};
-ghost use Rattle.rules.specs.Rules.{wokenAll, closeOn, closesOn, closePort};
+ghost use Rattle.rules.specs.Rules.{wokenAll, withEvent, closeOn, closesOn, closePort};
 use meaning::Chan;
+use meaning::Event;
 use meaning::Port;
 use meaning::Row;
 use meaning::Task;
@@ -77,6 +78,20 @@ fn close_idle(
     }
 }
 
+// The same turn, told by another event.
+fn with_event(t: Turned, event: Event) -> Turned
+    ensures { λ r. ⌜ r ≡ withEvent t event ⌝ }
+{
+    let state = t.state;
+    let change = t.change;
+    Turned {
+        event: event,
+        state: state,
+        change: change,
+    }
+}
+
+// One walk wakes the tasks that wait to receive; those that left the order tell how many they were.
 fn close_open(
     body: &[u8],
     s: State,
@@ -88,17 +103,14 @@ fn close_open(
 ) -> Turned
     ensures { λ r. ⌜ r ≡ closeOn (now (body .entry)) s me x c next k false (countWaiters (now (body .entry)) s Receiving c) (countWaiters (now (body .entry)) s Sending c) ⌝ }
 {
-    let receivers = count_waiters(body, s, Side::Receiving, c);
+    let p = shut(s, me, x, c, next, k, 0);
+    let t = wake_all(body, s, c, apply(s, me, p));
+    let after = t.state;
+    let receivers = s.waiting % 17 - after.waiting;
     if receivers == 0 {
-        close_idle(body, s, me, x, c, next, k)
-    } else {
-        wake_all(
-            body,
-            s,
-            c,
-            apply(s, me, shut(s, me, x, c, next, k, receivers)),
-        )
+        return close_idle(body, s, me, x, c, next, k);
     }
+    with_event(t, Event::Closed(c, receivers))
 }
 
 fn close_on(body: &[u8], s: State, me: Task, x: TaskState, c: Chan, next: Row) -> Turned

@@ -1,12 +1,42 @@
-use Rattle.rules.specs.Rules.{wokenAll}
-use Rattle.rules.proofs.Laws.{close-some}
+use Rattle.rules.proofs.Laws.{left-below, close-idly, close-woken}
+use Rattle.waiters.specs.declared.Side.the-variants.{Sending}
+use Rattle.waiters.specs.Waiters.{countWaiters}
+use Rattle.state.specs.Cells.{length-mapped}
 use Rattle.state.specs.State.{applied}
 use denote.Ref.{now}
-use Prim.Native.Nat.{_-_}
-use mathlib.Core.Path.{ap, _∙_}
+use lib.ListN.{length}
+use Prim.Native.Nat.{_%_, _-_}
+use native.Mathlib.Omega.{arith}
+use mathlib.Core.Path.{_≡_, refl, ap, _∙_}
 use borrow.Author.Needs.{needs}
 use Rattle.rules.proofs.closing.close_open.Statement.{statement}
 use Rattle.rules.proofs.closing.close_open.Tie as tie
+
+sub-receivers : tie.Need-sub-receivers
+sub-receivers c =
+    let a = c .before .before .before .before .before .before .before .args in
+    let full : length (a .s .order) ≡ 16 = search (needs, length-mapped, c .before .before .before .before .before .before .before .good .1 .0) in
+    let w = c .before .before .before .wake-all in
+    omega (arith, left-below (now (a .body)) (a .s) (a .c) full (c .before .before .before .before .apply .result) (w .result) (w .ensures))
+
+returns : tie.Need-returns
+returns c =
+    let a = c .before .before .before .before .before .before .before .before .before .args in
+    let full : length (a .s .order) ≡ 16 = search (needs, length-mapped, c .before .before .before .before .before .before .before .before .before .good .1 .0) in
+    let w = c .before .before .before .before .before .wake-all in
+    c .close-idle .ensures
+    ∙ close-idly (now (a .body)) (a .s) (a .c) full (c .before .before .before .before .before .before .apply .result) (w .result) (w .ensures) (a .me) (a .x) (a .next) (a .k) (countWaiters (now (a .body)) (a .s) Sending (a .c))
+    (a .s .waiting % 17 - w .result .state .waiting) refl (c .before .if1 .taken)
+
+returns-2 : tie.Need-returns-2
+returns-2 c =
+    let a = c .before .before .before .before .before .before .before .before .before .args in
+    let full : length (a .s .order) ≡ 16 = search (needs, length-mapped, c .before .before .before .before .before .before .before .before .before .good .1 .0) in
+    let w = c .before .before .before .before .before .wake-all in
+    let u = c .before .before .before .before .before .before .apply in
+    c .with-event .ensures
+    ∙ close-woken (now (a .body)) (a .s) (a .c) full (u .result) (w .result) (w .ensures) (a .me) (a .x) (a .next) (a .k) (countWaiters (now (a .body)) (a .s) Sending (a .c))
+    (a .s .waiting % 17 - w .result .state .waiting) refl (u .ensures ∙ ap (applied (a .s) (a .me)) (c .before .before .before .before .before .before .before .shut .ensures)) (c .before .if1 .left)
 
 pub close-open-spec : {M : Type 1} → statement M
 close-open-spec =
@@ -15,7 +45,8 @@ close-open-spec =
     (λ c κs. search needs)
     (λ c κs. search needs)
     (λ c κs. search needs)
+    sub-receivers
     (λ c κs. search needs)
+    returns
     (λ c κs. search needs)
-    (λ c. rw (← c .before .before .count-waiters .ensures, c .before .if1 .taken) (c .close-idle .ensures))
-    (λ c. rw (← c .before .before .before .before .count-waiters .ensures, close-some (now (c .before .before .before .before .before .before .args .body)) (c .before .before .before .before .before .before .args .s) (c .before .before .before .before .before .before .args .me) (c .before .before .before .before .before .before .args .x) (c .before .before .before .before .before .before .args .c) (c .before .before .before .before .before .before .args .next) (c .before .before .before .before .before .before .args .k) (c .before .before .before .before .count-waiters .result) _ (c .before .before .before .if1 .left)) (c .wake-all .ensures ∙ ap (wokenAll (now (c .before .before .before .before .before .before .args .body)) (c .before .before .before .before .before .before .args .s) (c .before .before .before .before .before .before .args .c)) (c .before .apply .ensures ∙ ap (applied (c .before .before .before .before .before .before .args .s) (c .before .before .before .before .before .before .args .me)) (c .before .before .shut .ensures)))))
+    returns-2)
