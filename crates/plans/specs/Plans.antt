@@ -31,9 +31,12 @@ module _ (s : State) (me : Task) (x : TaskState) where
   abbrev pub endPlan : Plan
   endPlan = quietPlan s me (stoodTask x Ended) Finished
 
-  -- send: to a waiting receiver w that goes on at `on`; into the buffer
+  -- send: to a waiting receiver w that stands as y and goes on at `on`; into the buffer
+  abbrev pub handBy : Chan → ℕ → Row → Task → TaskState → Row → Plan
+  handBy c v next w y on = wakingPlan (quietPlan s me (wentTask x next) (Handed c v w)) w (gotTask y v true on)
+
   abbrev pub handPlan : Chan → ℕ → Row → Task → Row → Plan
-  handPlan c v next w on = wakingPlan (quietPlan s me (wentTask x next) (Handed c v w)) w (gotTask (taskIn (s .tasks) w) v true on)
+  handPlan c v next w on = handBy c v next w (taskIn (s .tasks) w) on
 
   abbrev pub appendPlan : Chan → ℕ → Row → ChanState → Plan
   appendPlan c v next k = storingPlan (quietPlan s me (wentTask x next) (Appended c v)) c (record { closed = k .closed; len = k .len % 16 + 1 }) (Append c (k .len) v)
@@ -45,11 +48,17 @@ module _ (s : State) (me : Task) (x : TaskState) where
   abbrev pub takePlan : Chan → Row → ℕ → ChanState → Plan
   takePlan c hit v k = storingPlan (quietPlan s me (gotTask x v true hit) (Taken c v)) c (record { closed = k .closed; len = k .len - 1 }) (Take c (k .len))
 
+  abbrev pub refillBy : Chan → Row → ℕ → ChanState → Task → TaskState → Op → Row → Plan
+  refillBy c hit v k w y o on = wakingPlan (storingPlan (quietPlan s me (gotTask x v true hit) (Refilled c v w)) c k (Refill c (k .len) (payload o (y .register)))) w (wentTask y on)
+
   abbrev pub refillPlan : Chan → Row → ℕ → ChanState → Task → Op → Row → Plan
-  refillPlan c hit v k w o on = wakingPlan (storingPlan (quietPlan s me (gotTask x v true hit) (Refilled c v w)) c k (Refill c (k .len) (sentBy w o))) w (wentTask (taskIn (s .tasks) w) on)
+  refillPlan c hit v k w o on = refillBy c hit v k w (taskIn (s .tasks) w) o on
+
+  abbrev pub receiveBy : Chan → Row → Task → TaskState → Op → Row → Plan
+  receiveBy c hit w y o on = wakingPlan (quietPlan s me (gotTask x (payload o (y .register)) true hit) (Received c (payload o (y .register)) w)) w (wentTask y on)
 
   abbrev pub receivePlan : Chan → Row → Task → Op → Row → Plan
-  receivePlan c hit w o on = wakingPlan (quietPlan s me (gotTask x (sentBy w o) true hit) (Received c (sentBy w o) w)) w (wentTask (taskIn (s .tasks) w) on)
+  receivePlan c hit w o on = receiveBy c hit w (taskIn (s .tasks) w) o on
 
   abbrev pub drainPlan : Chan → Row → Plan
   drainPlan c miss = quietPlan s me (gotTask x 0 false miss) (Drained c)

@@ -1,7 +1,7 @@
 // The plans of the rules, each for the mover `me`, which stands as x in the state s.
 ghost use mathlib.Core.Path.{_≡_};
 ghost use Prim.Native.Nat.{_<_};
-ghost use Rattle.plans.specs.Plans.{failPlan, waitPlan, branchPlan, endPlan, handPlan, appendPlan, takePlan, refillPlan, receivePlan, drainPlan, shutPlan};
+ghost use Rattle.plans.specs.Plans.{failPlan, waitPlan, branchPlan, endPlan, handBy, appendPlan, takePlan, refillBy, receiveBy, drainPlan, shutPlan};
 ghost use Rattle.meaning.specs.Machine.{payload};
 use meaning::Chan;
 use meaning::Event;
@@ -48,14 +48,26 @@ pub fn end(s: State, me: Task, x: TaskState) -> Plan
     quiet(s, me, stood(x, Status::Ended), Event::Finished)
 }
 
-// The value v goes to the waiting receiver w, which goes on at `on`.
-pub fn hand(s: State, me: Task, x: TaskState, c: Chan, v: u16, next: Row, w: Task, on: Row) -> Plan
-    ensures { λ r. ⌜ r ≡ handPlan s me x c v next w on ⌝ }
+// The value v goes to the waiting receiver w, which stands as y and goes on at `on`.
+pub fn hand(
+    s: State,
+    me: Task,
+    x: TaskState,
+    c: Chan,
+    v: u16,
+    next: Row,
+    w: Task,
+    y: TaskState,
+    on: Row,
+) -> Plan
+    ensures { λ r. ⌜ r ≡ handBy s me x c v next w y on ⌝ }
 {
-    let at = (w.0 % 16) as usize;
-    let tasks = s.tasks;
-    let y = got(tasks[at], v, true, on);
-    waking(quiet(s, me, went(x, next), Event::Handed(c, v, w)), w, y)
+    let woken = got(y, v, true, on);
+    waking(
+        quiet(s, me, went(x, next), Event::Handed(c, v, w)),
+        w,
+        woken,
+    )
 }
 
 // The value v goes into the buffer of c, whose record is k.
@@ -101,7 +113,7 @@ fn payload_of(o: Op, register: u16) -> u16
     }
 }
 
-// The same, and the waiting sender w refills the buffer by its operation o and goes on at `on`.
+// The same, and the waiting sender w, which stands as y, refills the buffer by its operation o and goes on at `on`.
 pub fn refill(
     s: State,
     me: Task,
@@ -111,14 +123,12 @@ pub fn refill(
     v: u16,
     k: ChanState,
     w: Task,
+    y: TaskState,
     o: Op,
     on: Row,
 ) -> Plan
-    ensures { λ r. ⌜ r ≡ refillPlan s me x c hit v k w o on ⌝ }
+    ensures { λ r. ⌜ r ≡ refillBy s me x c hit v k w y o on ⌝ }
 {
-    let at = (w.0 % 16) as usize;
-    let tasks = s.tasks;
-    let y = tasks[at];
     let sent = payload_of(o, y.register);
     let taken = quiet(s, me, got(x, v, true, hit), Event::Refilled(c, v, w));
     waking(
@@ -128,13 +138,20 @@ pub fn refill(
     )
 }
 
-// The value comes from the waiting sender w, by its operation o, which goes on at `on`.
-pub fn receive(s: State, me: Task, x: TaskState, c: Chan, hit: Row, w: Task, o: Op, on: Row) -> Plan
-    ensures { λ r. ⌜ r ≡ receivePlan s me x c hit w o on ⌝ }
+// The value comes from the waiting sender w, which stands as y, by its operation o, and w goes on at `on`.
+pub fn receive(
+    s: State,
+    me: Task,
+    x: TaskState,
+    c: Chan,
+    hit: Row,
+    w: Task,
+    y: TaskState,
+    o: Op,
+    on: Row,
+) -> Plan
+    ensures { λ r. ⌜ r ≡ receiveBy s me x c hit w y o on ⌝ }
 {
-    let at = (w.0 % 16) as usize;
-    let tasks = s.tasks;
-    let y = tasks[at];
     let sent = payload_of(o, y.register);
     waking(
         quiet(s, me, got(x, sent, true, hit), Event::Received(c, sent, w)),

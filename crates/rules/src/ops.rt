@@ -5,6 +5,7 @@ ghost use Prim.Native.Nat.{_<_};
 ghost use lib.Dec.{ltb};
 ghost use Rattle.meaning.specs.Bytes.{capacityIn};
 ghost use Rattle.waiters.specs.declared.Found.the-variants.{Nobody};
+ghost use Rattle.waiters.specs.Waiters.{recordOf};
 ghost use Rattle.rules.specs.Rules.{orWait, sendOn, sendsOn, sendTo, receiveOn, receivesOn, receiveFrom, exchangeOf, exchanged, attempt};
 use crate::Exchange;
 use meaning::Chan;
@@ -60,12 +61,14 @@ fn send_to_whom(
     k: ChanState,
     capacity: u8,
     f: Found,
+    y: TaskState,
 ) -> Plan
+    requires { ⌜ y ≡ recordOf s f ⌝ }
     ensures { λ r. ⌜ r ≡ orWait s me x (sendOn s me x c v next k false f (ltb (k .len) capacity)) ⌝ }
 {
     match f {
         Found::Nobody => send_in(s, me, x, c, v, next, k, capacity),
-        Found::At(w, _, on, _) => hand(s, me, x, c, v, next, w, on),
+        Found::At(w, _, on, _) => hand(s, me, x, c, v, next, w, y, on),
     }
 }
 
@@ -88,8 +91,10 @@ fn send_on(
         fail(s, me, x, 1, Port::On(c))
     } else {
         let capacity = capacity_in(body, rows, c.0 as u16);
-        let f = first_waiter(body, s, Side::Receiving, c);
-        send_to_whom(s, me, x, c, v, next, k, capacity, f)
+        let q = first_waiter(body, s, Side::Receiving, c);
+        let f = q.found;
+        let y = q.stands;
+        send_to_whom(s, me, x, c, v, next, k, capacity, f, y)
     }
 }
 
@@ -122,13 +127,14 @@ fn receive_full(
     v: u16,
     k: ChanState,
     f: Found,
+    y: TaskState,
 ) -> Plan
-    requires { ⌜ 0 < k .len ⌝ }
+    requires { ⌜ (0 < k .len) × (y ≡ recordOf s f) ⌝ }
     ensures { λ r. ⌜ r ≡ orWait s me x (receiveOn s me x c hit miss v k true f (k .closed)) ⌝ }
 {
     match f {
         Found::Nobody => take(s, me, x, c, hit, v, k),
-        Found::At(w, o, on, _) => refill(s, me, x, c, hit, v, k, w, o, on),
+        Found::At(w, o, on, _) => refill(s, me, x, c, hit, v, k, w, y, o, on),
     }
 }
 
@@ -162,12 +168,14 @@ fn receive_empty(
     v: u16,
     k: ChanState,
     f: Found,
+    y: TaskState,
 ) -> Plan
+    requires { ⌜ y ≡ recordOf s f ⌝ }
     ensures { λ r. ⌜ r ≡ orWait s me x (receiveOn s me x c hit miss v k false f (k .closed)) ⌝ }
 {
     match f {
         Found::Nobody => receive_nothing(s, me, x, c, hit, miss, v, k),
-        Found::At(w, o, on, _) => receive(s, me, x, c, hit, w, o, on),
+        Found::At(w, o, on, _) => receive(s, me, x, c, hit, w, y, o, on),
     }
 }
 
@@ -187,11 +195,13 @@ fn receive_on(
     let chans = s.chans;
     let k = chans[at];
     let v = oldest_in(values, c);
-    let f = first_waiter(body, s, Side::Sending, c);
+    let q = first_waiter(body, s, Side::Sending, c);
+    let f = q.found;
+    let y = q.stands;
     if 0 < k.len {
-        receive_full(s, me, x, c, hit, miss, v, k, f)
+        receive_full(s, me, x, c, hit, miss, v, k, f, y)
     } else {
-        receive_empty(s, me, x, c, hit, miss, v, k, f)
+        receive_empty(s, me, x, c, hit, miss, v, k, f, y)
     }
 }
 

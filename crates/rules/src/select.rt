@@ -55,7 +55,9 @@ fn can_send_on(body: &[u8], rows: u16, s: State, c: Chan) -> bool
         true
     } else {
         let capacity = capacity_in(body, rows, c.0 as u16);
-        can_give(first_waiter(body, s, Side::Receiving, c), k.len < capacity)
+        let q = first_waiter(body, s, Side::Receiving, c);
+        let f = q.found;
+        can_give(f, k.len < capacity)
     }
 }
 
@@ -77,7 +79,9 @@ fn can_receive_on(body: &[u8], s: State, c: Chan) -> bool
     if 0 < k.len {
         true
     } else {
-        can_get(first_waiter(body, s, Side::Sending, c), k.closed)
+        let q = first_waiter(body, s, Side::Sending, c);
+        let f = q.found;
+        can_get(f, k.closed)
     }
 }
 

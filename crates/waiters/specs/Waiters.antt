@@ -1,18 +1,22 @@
 -- Who waits for what, over the records of a state and the rows from row 0 on. The rules are the meaning's (`receivesOn`,
 -- `sendsOn`); what is said here is how the waiting tasks are walked.
+use mathlib.Core.Path.{_≡_, sym, ap, _∙_}
 use mathlib.Core.Bool.{Bool, true, false, cond}
 use mathlib.Core.List.{List, [], _∷_}
 use Prim.Native.Nat.{ℕ, zero, suc, _+_}
+use lib.ListN.{replicate}
 use Rattle.meaning.specs.declared.Task.{Task}
 use Rattle.meaning.specs.declared.Chan.{Chan}
 use Rattle.meaning.specs.declared.Row.{Row}
 use Rattle.meaning.specs.declared.Op.{Op}
 use Rattle.meaning.specs.declared.Op.the-variants.{Recv}
+use Rattle.meaning.specs.declared.Status.the-variants.{Able}
 use Rattle.meaning.specs.declared.Statement.{Statement}
 use Rattle.meaning.specs.declared.Statement.the-variants.{Do, Close, Range, Repeat, Ifok, Select, Case, Stop}
 use Rattle.meaning.specs.Machine.{receivesOn, sendsOn}
 use Rattle.meaning.specs.Image.{rowNo}
 use Rattle.meaning.specs.Bytes.{rowsIn}
+use Rattle.state.specs.declared.TaskState.{TaskState}
 use Rattle.state.specs.declared.State.{State}
 use Rattle.state.specs.State.{taskIn, orderOf}
 use Rattle.waiters.specs.declared.Side.{Side}
@@ -21,6 +25,7 @@ use Rattle.waiters.specs.declared.Offer.{Offer}
 use Rattle.waiters.specs.declared.Offer.the-variants.{Nothing, By}
 use Rattle.waiters.specs.declared.Found.{Found}
 use Rattle.waiters.specs.declared.Found.the-variants.{Nobody, At}
+use Rattle.waiters.specs.declared.Partner.{Partner}
 
 abbrev pub fits : Side → Chan → Op → Bool
 fits Receiving c o = receivesOn c o
@@ -93,3 +98,20 @@ module _ (rs : List ℕ) (s : State) (side : Side) (c : Chan) where
 
   unfoldable pub countWaiters : ℕ
   countWaiters = countOf waitsAt (orderOf s)
+
+-- A found task and how it stands.
+abbrev pub noRecord : TaskState
+noRecord = record { status = Able; ok = false; register = 0; row = record { 0 = 0 }; laps = replicate 6 0 }
+
+abbrev pub recordOf : State → Found → TaskState
+recordOf s Nobody = noRecord
+recordOf s (At t o h x) = taskIn (s .tasks) t
+
+abbrev pub noPartner : Partner
+noPartner = record { found = Nobody; stands = noRecord }
+
+abbrev pub partnerOf : State → Found → Partner
+partnerOf s f = record { found = f; stands = recordOf s f }
+
+pub partner-stands : (s : State) (q : Partner) (f : Found) → q ≡ partnerOf s f → q .stands ≡ recordOf s (q .found)
+partner-stands s q f e = ap (λ (p : Partner). p .stands) e ∙ ap (recordOf s) (sym (ap (λ (p : Partner). p .found) e))

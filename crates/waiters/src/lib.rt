@@ -3,15 +3,17 @@
 ghost use mathlib.Core.Path.{_≡_};
 ghost use Prim.Native.Nat.{_+_};
 ghost use Rattle.meaning.specs.Machine.{isOn, receivesOn, sendsOn};
-ghost use Rattle.waiters.specs.Waiters.{fits, caseOffer, fitting, firstCase, matchedBy, matchedAt, firstWaiter, isOffer, countWaiters};
+ghost use Rattle.waiters.specs.Waiters.{fits, caseOffer, fitting, firstCase, matchedBy, matchedAt, firstWaiter, noPartner, partnerOf, isOffer, countWaiters};
 use meaning::Chan;
 use meaning::Op;
 use meaning::Port;
 use meaning::Row;
 use meaning::Statement;
+use meaning::Status;
 use meaning::Task;
 use rows::table::statement_at;
 use state::State;
+use state::TaskState;
 
 // The side of a channel on which a task waits.
 pub enum Side {
@@ -29,6 +31,12 @@ pub enum Offer {
 pub enum Found {
     Nobody,
     At(Task, Op, Row, Row),
+}
+
+// A found task and how it stands; where there is none, a record that says nothing.
+pub struct Partner {
+    pub found: Found,
+    pub stands: TaskState,
 }
 
 fn is_on(c: Chan, p: Port) -> bool
@@ -142,13 +150,33 @@ pub fn matched_at(body: &[u8], side: Side, c: Chan, row: Row) -> Offer
     matched_by(body, side, c, row, statement_at(body, row.0 as u32))
 }
 
+fn nobody() -> Partner
+    ensures { λ r. ⌜ r ≡ noPartner ⌝ }
+{
+    let laps = [0u8; 6];
+    let status = Status::Able;
+    let row = Row(0);
+    let stands = TaskState {
+        status: status,
+        ok: false,
+        register: 0,
+        row: row,
+        laps: laps,
+    };
+    let found = Found::Nobody;
+    Partner {
+        found: found,
+        stands: stands,
+    }
+}
+
 // The task that has waited longest on this side of the channel. Where nobody waits, which is asked first, no task is copied.
-pub fn first_waiter(body: &[u8], s: State, side: Side, c: Chan) -> Found
-    ensures { λ r. ⌜ r ≡ firstWaiter (now (body .entry)) s side c ⌝ }
+pub fn first_waiter(body: &[u8], s: State, side: Side, c: Chan) -> Partner
+    ensures { λ r. ⌜ r ≡ partnerOf s (firstWaiter (now (body .entry)) s side c) ⌝ }
 {
     let n = (s.waiting % 17) as usize;
     if n == 0 {
-        return Found::Nobody;
+        return nobody();
     }
     let order = s.order;
     let tasks = s.tasks;
@@ -162,12 +190,16 @@ pub fn first_waiter(body: &[u8], s: State, side: Side, c: Chan) -> Found
         i = i + 1;
         match f {
             Offer::By(o, hit, miss) => {
-                return Found::At(t, o, hit, miss);
+                let found = Found::At(t, o, hit, miss);
+                return Partner {
+                    found: found,
+                    stands: x,
+                };
             }
             Offer::Nothing => {}
         }
     }
-    Found::Nobody
+    nobody()
 }
 
 fn is_offer(f: Offer) -> bool

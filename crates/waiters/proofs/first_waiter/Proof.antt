@@ -19,7 +19,7 @@ abbrev μ-loop : tie.MeasureT-loop
 
 returns : tie.Need-returns Inv-loop μ-loop
 unfolding firstWaiter
-returns c = rw (c .if1 .taken)
+returns c = rw (c .nobody .ensures, c .before .if1 .taken)
 
 loop-holds : tie.Need-loop-holds Inv-loop μ-loop
 loop-holds c = (search needs, (omega arith, (search (needs, length-mapped), refl)))
@@ -40,9 +40,9 @@ loop-again c =
 returns-3 : tie.Need-returns-3 Inv-loop μ-loop
 unfolding firstWaiter
 returns-3 c =
-    let a = c .before .before .before .before .before .before .before .args in
-    let l = c .before .loop in
-    rw (l .inv .1 .1 .1, drop-of-length-le (take (a .s .waiting % 17) (a .s .order)) {i = l .i} (simp length-take (omega (arith, l .inv .1 .1 .0))))
+    let a = c .before .before .before .before .before .before .before .before .args in
+    let l = c .before .before .loop in
+    rw (c .nobody2 .ensures, l .inv .1 .1 .1, drop-of-length-le (take (a .s .waiting % 17) (a .s .order)) {i = l .i} (simp length-take (omega (arith, l .inv .1 .1 .0))))
 
 pub first-waiter-spec : {M : Type 1} → statement M
 first-waiter-spec =
@@ -51,6 +51,7 @@ first-waiter-spec =
     Inv-loop
     μ-loop
     (λ c. search needs)
+    (λ c κs. search needs)
     returns
     loop-holds
     (λ c. search needs)
@@ -64,4 +65,5 @@ first-waiter-spec =
     (λ c. search needs)
     (λ c. search needs)
     loop-again
+    (λ c κs. search needs)
     returns-3)

@@ -1,7 +1,18 @@
-use borrow.Author.Tests.{le-ltb, lt-ltb}
+use borrow.Author.Tests.{lt-ltb, le-ltb}
+use Rattle.waiters.specs.declared.Partner.{Partner}
+use Rattle.waiters.specs.declared.Side.the-variants.{Sending}
+use Rattle.waiters.specs.Waiters.{firstWaiter}
+use denote.Ref.{now}
+use mathlib.Core.Path.{_≡_, ap}
 use borrow.Author.Needs.{needs}
 use Rattle.rules.proofs.select.can_receive_on.Statement.{statement}
 use Rattle.rules.proofs.select.can_receive_on.Tie as tie
+
+returns-2 : tie.Need-returns-2
+returns-2 c =
+    let a = c .before .before .before .before .before .before .before .before .args in
+    let e : c .before .first-waiter .result .found ≡ firstWaiter (now (a .body)) (a .s) Sending (a .c) = ap (λ (p : Partner). p .found) (c .before .first-waiter .ensures) in
+    rw (c .can-get .ensures, e, le-ltb _ _ (c .before .before .if1 .left))
 
 pub can-receive-on-spec : {M : Type 1} → statement M
 can-receive-on-spec =
@@ -13,4 +24,4 @@ can-receive-on-spec =
     (λ c κs. search needs)
     (λ c κs. search needs)
     (λ c. rw (lt-ltb _ _ (c .if1 .taken)))
-    (λ c. rw (c .can-get .ensures, c .before .first-waiter .ensures, le-ltb _ _ (c .before .before .if1 .left))))
+    returns-2)
