@@ -37,8 +37,9 @@ fn first_bad_row(body: &[u8], rows: u16, channels: u8) -> First
     let mut i: u16 = 0;
     while i < rows {
         let f = fields_of_row(body, i as u32);
-        if row_good(body, rows, channels, i, owed, f) {
-            owed = owed_after(owed, statement_of(f));
+        let s = statement_of(f);
+        if row_good(body, rows, channels, i, owed, f, s) {
+            owed = owed_after(owed, s);
             i = i + 1;
         } else {
             return First::At(i);

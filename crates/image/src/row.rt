@@ -4,6 +4,7 @@ ghost use mathlib.Core.Bool.{_&&_};
 ghost use Prim.Native.Nat.{suc, _<_, _-_};
 ghost use lib.Dec.{leb, ltb};
 ghost use Rattle.meaning.specs.Numbers.{caseLimit, lapLimit, depthLimit};
+ghost use Rattle.meaning.specs.Bytes.{statementOf};
 ghost use Rattle.image.specs.Check.{inTable, owedAfter, isCaseRow, isTarget, portGood, opGood, otherwiseGood, casesFollow, statementGood, rowGood};
 use meaning::Fields;
 use meaning::Op;
@@ -13,13 +14,13 @@ use meaning::Row;
 use meaning::Statement;
 use rows::table::fields_of;
 use rows::table::fields_of_row;
-use rows::table::statement_of;
 
-// Whether the table writes these five fields for the statement that they read as.
-fn in_table(f: Fields) -> bool
+// Whether the table writes these five fields for s, the statement that they read as.
+fn in_table(f: Fields, s: Statement) -> bool
+    requires { ⌜ s ≡ statementOf f ⌝ }
     ensures { λ r. ⌜ r ≡ inTable f ⌝ }
 {
-    let g = fields_of(statement_of(f));
+    let g = fields_of(s);
     if f.op != g.op {
         return false;
     }
@@ -188,12 +189,21 @@ fn statement_good(body: &[u8], rows: u16, channels: u8, i: u16, owed: u8, s: Sta
     }
 }
 
-pub fn row_good(body: &[u8], rows: u16, channels: u8, i: u16, owed: u8, f: Fields) -> bool
-    requires { ⌜ i < rows ⌝ }
+// Whether row i, with these fields, which read as s, is good. The statement is made once for a row, and asked three times.
+pub fn row_good(
+    body: &[u8],
+    rows: u16,
+    channels: u8,
+    i: u16,
+    owed: u8,
+    f: Fields,
+    s: Statement,
+) -> bool
+    requires { ⌜ (i < rows) × (s ≡ statementOf f) ⌝ }
     ensures { λ b. ⌜ b ≡ rowGood (now (body .entry)) rows channels i owed f ⌝ }
 {
-    if in_table(f) {
-        statement_good(body, rows, channels, i, owed, statement_of(f))
+    if in_table(f, s) {
+        statement_good(body, rows, channels, i, owed, s)
     } else {
         false
     }

@@ -26,14 +26,14 @@ loop-again c =
     let l = c .before .before .before .before .before .before .loop in (
       search needs,
       (
-        rw (owed-step (now (a .body)) (l .i), ← l .inv .1 .0, ← c .before .before .before .before .fields-of-row .ensures, ← c .before .statement-of .ensures) (c .owed-after .ensures),
+        rw (owed-step (now (a .body)) (l .i), ← l .inv .1 .0, ← c .before .before .before .before .fields-of-row .ensures, ← c .before .before .before .statement-of .ensures) (c .owed-after .ensures),
         rw (
           l .inv .1 .1,
           first-step (rowBad (now (a .body)) (a .rows) (a .channels)) (a .rows) (l .i) (search needs),
           ← l .inv .1 .0,
           ← c .before .before .before .before .fields-of-row .ensures,
-          ← c .before .before .before .row-good .ensures,
-          c .before .before .if1 .taken,
+          ← c .before .before .row-good .ensures,
+          c .before .if1 .taken,
         ),
       ),
     )
@@ -41,13 +41,13 @@ loop-again c =
 returns : tie.Need-returns Inv-loop μ-loop
 unfolding rowBad
 returns c =
-    let a = c .before .before .before .before .before .before .args in
-    let l = c .before .before .before .before .loop in
+    let a = c .before .before .before .before .before .before .before .args in
+    let l = c .before .before .before .before .before .loop in
     rw (
       l .inv .1 .1,
       first-step (rowBad (now (a .body)) (a .rows) (a .channels)) (a .rows) (l .i) (search needs),
       ← l .inv .1 .0,
-      ← c .before .before .fields-of-row .ensures,
+      ← c .before .before .before .fields-of-row .ensures,
       ← c .before .row-good .ensures,
       c .if1 .left,
     )
@@ -66,7 +66,7 @@ first-bad-row-spec =
     (λ c. search needs)
     (λ c κs. search needs)
     (λ c κs. search needs)
-    (λ c κs. search needs)
+    (λ c κs. (search needs, c .statement-of .ensures))
     (λ c κs. search needs)
     (λ c. search needs)
     (λ c. search needs)
