@@ -1,6 +1,6 @@
 -- `opened::answers_of` meets its contract: a walk of its MIR, by hand. The struct that `open` returns is held in a local, and a
 -- copy of it is passed to `answer`, `row`, `capacity` and `first_row` in turn. All that the proof knows of the five is that
--- each meets its contract.
+-- each meets its contract. The last three are questions of one kind or another (`Asks`).
 -- The struct is Copy: ahead of each call what it owns is had twice, one for the call and one for the calls to come. What an
 -- answer owns is made anew where the answers are put together.
 use mathlib.Core.Path.{_≡_, refl, ap, _∙_}
@@ -17,20 +17,20 @@ use prog.Memory.{Memory}
 use prog.Routine.{Routine}
 use prog.Wp.{Heap, Calls, Loops, WpFn, Tables}
 use ghost.Atoms.{Atoms, sem}
-use contract.Lifetimes.{Lfts}
 use contract.Monad.{Fun, fact}
 use contract.Running.{givenOf, tables, tablesOf}
 use types.Kit.{Given, ‵, raw, _⊛_, ⋆, some, later, _$_, _∵_, !, qed, by, move, drop, use1, use2, split, join, pick, rewrite, fsplit, fjoin, suffices, frame, await, done}
 use types.Part.{agg}
 use types.Run.{look, init, forget, stop, from, load, of-opd, and-then, no-more, assigns, land, returns, enter, alloc1, alloc0, params1, pass1, pass0, free1, free0}
 use sound.WpLaws.{FmC, fmOf, WpFn-mono}
-use denote.RattleType.{RattleType, owns}
+use denote.RattleType.{owns}
 use denote.Laws.{Is, shows}
 use denote.Builtin.{u8}
 use denote.Ref.{RefT, NamedLft, now}
 use denote.Signature.{plain, namedLft}
 use denote.Slice.{sliceVal, ShrSlice, slice-vals, shr-slice-tells, shr-slice-lawful, shr-slice-copy}
 use denote.Steps.{only, owned, peeks, heard, nothing}
+use denote.Enum.Declared as E
 use denote.Enum.Laws as EL
 use denote.Struct.Declared.{Declared}
 use denote.Struct.Laws as LL
@@ -59,6 +59,7 @@ use Rattle.meaning.proofs.Chan as X
 use Rattle.meaning.proofs.Chan.Laws as X′
 use Rattle.meaning.proofs.Task as Y
 use Rattle.meaning.proofs.Task.Laws as Y′
+use Rattle.opened.proofs.Asks.{B, rows, capacities, starts, machN, Asks, question}
 use Rattle.opened.proofs.Opened as T
 use Rattle.opened.proofs.Opened.Laws as T′
 use Rattle.image.proofs.Checked as S₁
@@ -79,15 +80,12 @@ use Rattle.opened.proofs.answer as ask-check
 use Rattle.opened.proofs.answer.Symbol as ask-check-def
 use Rattle.opened.proofs.answer.Symbol.{name as #check}
 use Rattle.opened.proofs.answer.Met as ask-check-thm
-use Rattle.opened.proofs.row as ask-row
 use Rattle.opened.proofs.row.Symbol as ask-row-def
 use Rattle.opened.proofs.row.Symbol.{name as #row}
 use Rattle.opened.proofs.row.Met as ask-row-thm
-use Rattle.opened.proofs.capacity as ask-capacity
 use Rattle.opened.proofs.capacity.Symbol as ask-capacity-def
 use Rattle.opened.proofs.capacity.Symbol.{name as #capacity}
 use Rattle.opened.proofs.capacity.Met as ask-capacity-thm
-use Rattle.opened.proofs.first_row as ask-start
 use Rattle.opened.proofs.first_row.Symbol as ask-start-def
 use Rattle.opened.proofs.first_row.Symbol.{name as #start}
 use Rattle.opened.proofs.first_row.Met as ask-start-thm
@@ -101,28 +99,7 @@ answer-held : (bs : List ℕ) → heldOf bs .answer ≡ checked bs
 unfolding heldOf
 answer-held bs = refl
 
--- the machine values of the numbers, of each answer and of all four
-abbrev machN : Row → Val
-machN n = only (LL.vals N.the-type N′.the-laws n)
-
-abbrev machX : Chan → Val
-machX c = only (LL.vals X.the-type X′.the-laws c)
-
-abbrev machY : Task → Val
-machY t = only (LL.vals Y.the-type Y′.the-laws t)
-
-abbrev machS₁ : Checked → Val
-machS₁ a = only (EL.vals S₁.the-type S₁′.the-laws a)
-
-abbrev machS₂ : RowAnswer → Val
-machS₂ a = only (EL.vals S₂.the-type S₂′.the-laws a)
-
-abbrev machS₃ : CapacityAnswer → Val
-machS₃ a = only (EL.vals S₃.the-type S₃′.the-laws a)
-
-abbrev machS₄ : FirstRowAnswer → Val
-machS₄ a = only (EL.vals S₄.the-type S₄′.the-laws a)
-
+-- the machine value of the four answers
 abbrev machR : Answers → Val
 machR a = only (LL.vals R.the-type R′.the-laws a)
 
@@ -130,21 +107,8 @@ abbrev made : Checked → RowAnswer → CapacityAnswer → FirstRowAnswer → An
 made a₁ a₂ a₃ a₄ = record { check = a₁; row = a₂; capacity = a₃; start = a₄ }
 
 -- what whoever holds an answer knows of it, at its machine value spelled out
-isS₁ : (a : Checked) (u : Val) → Is S₁.the-row a (u ∷ []) → Is S₁.the-row a (machS₁ a ∷ [])
-isS₁ a u is = EL.owes S₁.the-type S₁′.the-laws a (EL.owed S₁.the-type S₁′.the-laws a (u ∷ []) is)
-
-isS₂ : (a : RowAnswer) (u : Val) → Is S₂.the-row a (u ∷ []) → Is S₂.the-row a (machS₂ a ∷ [])
-isS₂ a u is = EL.owes S₂.the-type S₂′.the-laws a (EL.owed S₂.the-type S₂′.the-laws a (u ∷ []) is)
-
-isS₃ : (a : CapacityAnswer) (u : Val) → Is S₃.the-row a (u ∷ []) → Is S₃.the-row a (machS₃ a ∷ [])
-isS₃ a u is = EL.owes S₃.the-type S₃′.the-laws a (EL.owed S₃.the-type S₃′.the-laws a (u ∷ []) is)
-
-isS₄ : (a : FirstRowAnswer) (u : Val) → Is S₄.the-row a (u ∷ []) → Is S₄.the-row a (machS₄ a ∷ [])
-isS₄ a u is = EL.owes S₄.the-type S₄′.the-laws a (EL.owed S₄.the-type S₄′.the-laws a (u ∷ []) is)
-
--- the struct's type, over the signature's lifetimes
-abbrev B : Lfts 1 → RattleType
-B κs = T.the-row (namedLft 1 0 tt κs)
+spelled : (S : E.Declared) (L : EL.Laws S) (a : S .D) (u : Val) → Is (E.row S) a (u ∷ []) → Is (E.row S) a (EL.val S L a ∷ [])
+spelled S L a u is = EL.owes S L a (EL.owed S L a (u ∷ []) is)
 
 abbrev stayed : Stays (f.ended .signature .params) (f.ended .kept)
 stayed = (stay-none-slice (0 ∷ []) tt (plain (λ _. u8)) yes, (stay-none (λ _. N.the-row) yes, (stay-none (λ _. X.the-row) yes, (stay-none (λ _. Y.the-row) yes, tt))))
@@ -157,16 +121,7 @@ module _ {M : Type 1} (𝓤 : URA M) (H : Heap 𝓤) (A : Atoms 𝓤) (mem : Mem
   abbrev Check : Contract 𝓤
   Check = tripleOf 𝓤 H A ask-check.signature (ask-check.spec 𝓤 H A mem run)
 
-  abbrev RowOf : Contract 𝓤
-  RowOf = tripleOf 𝓤 H A ask-row.signature (ask-row.spec 𝓤 H A mem run)
-
-  abbrev CapacityOf : Contract 𝓤
-  CapacityOf = tripleOf 𝓤 H A ask-capacity.signature (ask-capacity.spec 𝓤 H A mem run)
-
-  abbrev StartOf : Contract 𝓤
-  StartOf = tripleOf 𝓤 H A ask-start.signature (ask-start.spec 𝓤 H A mem run)
-
-module _ {M : Type 1} (𝓤 : URA M) (H : Heap 𝓤) (A : Atoms 𝓤) (W : Given 𝓤 H A) (mem : Memory → SProp 𝓤) (run : Routine → Fun 𝓤) (κ : Lft) (q : Share) (s : RefT (List ℕ)) (n : Row) (isN : Is N.the-row n (machN n ∷ [])) (c : Chan) (isX : Is X.the-row c (machX c ∷ [])) (t : Task) (isY : Is Y.the-row t (machY t ∷ [])) where
+module _ {M : Type 1} (𝓤 : URA M) (H : Heap 𝓤) (A : Atoms 𝓤) (W : Given 𝓤 H A) (mem : Memory → SProp 𝓤) (run : Routine → Fun 𝓤) (κ : Lft) (q : Share) (s : RefT (List ℕ)) (n : Row) (isN : Is N.the-row n (machN rows n ∷ [])) (c : Chan) (isX : Is X.the-row c (machN capacities c ∷ [])) (t : Task) (isY : Is Y.the-row t (machN starts t ∷ [])) where
   -- the machine value that s has
   abbrev v : Val
   v = sliceVal (s .ptr) (length (s .now))
@@ -179,7 +134,7 @@ module _ {M : Type 1} (𝓤 : URA M) (H : Heap 𝓤) (A : Atoms 𝓤) (W : Given
   αᵉ = record { mir = erased; lft = κ }
 
   abbrev Post : Val → SProp 𝓤
-  Post = walkOf 𝓤 H A f.ended stayed (f.clauses 𝓤 H A mem run) .post (((κ, tt), (q, tt), tt, (s, (n, (c, (t, tt)))), (v ∷ [], (machN n ∷ [], (machX c ∷ [], (machY t ∷ [], tt))))), tt)
+  Post = walkOf 𝓤 H A f.ended stayed (f.clauses 𝓤 H A mem run) .post (((κ, tt), (q, tt), tt, (s, (n, (c, (t, tt)))), (v ∷ [], (machN rows n ∷ [], (machN capacities c ∷ [], (machN starts t ∷ [], tt))))), tt)
 
   abbrev Own : Fml
   Own = ShrSlice (named 0) κ u8 .own s (v ∷ [])
@@ -188,9 +143,9 @@ module _ {M : Type 1} (𝓤 : URA M) (H : Heap 𝓤) (A : Atoms 𝓤) (W : Given
   abbrev to-open : Open 𝓤 H A mem run .Ghost
   to-open = (((κ, tt), (q, tt), tt, (s, tt), (v ∷ [], tt)), tt)
 
-  goes-open : ent 𝓤 (onEntry 𝓤 H A f.signature (κ, tt) (q, tt) (s, (n, (c, (t, tt)))) (v ∷ [], (machN n ∷ [], (machX c ∷ [], (machY t ∷ [], tt))))) (sep 𝓤 (Open 𝓤 H A mem run .pre to-open) (sem 𝓤 H A Own))
+  goes-open : ent 𝓤 (onEntry 𝓤 H A f.signature (κ, tt) (q, tt) (s, (n, (c, (t, tt)))) (v ∷ [], (machN rows n ∷ [], (machN capacities c ∷ [], (machN starts t ∷ [], tt))))) (sep 𝓤 (Open 𝓤 H A mem run .pre to-open) (sem 𝓤 H A Own))
   goes-open =
-      qed W ((‵ (flft κ q) ⊛ ‵ ftrue) ∷ ‵ (owns (ShrSlice (named 0) κ u8 ∷ N.the-row ∷ X.the-row ∷ Y.the-row ∷ []) (s, (n, (c, (t, tt)))) (v ∷ [], (machN n ∷ [], (machX c ∷ [], (machY t ∷ [], tt))))) ∷ []) ∵
+      qed W ((‵ (flft κ q) ⊛ ‵ ftrue) ∷ ‵ (owns (ShrSlice (named 0) κ u8 ∷ N.the-row ∷ X.the-row ∷ Y.the-row ∷ []) (s, (n, (c, (t, tt)))) (v ∷ [], (machN rows n ∷ [], (machN capacities c ∷ [], (machN starts t ∷ [], tt))))) ∷ []) ∵
       move ! (1 ∷ []) $ fsplit ! $ move ! (1 ∷ []) $ drop ! $ nothing ! $ move ! (1 ∷ 0 ∷ []) $ use1 W (‵ Own ⊛ ‵ Own) (shr-slice-copy 𝓤 H A W (named 0) κ u8 .twice s (v ∷ [])) $ split ! $
       move ! (0 ∷ 2 ∷ []) $ fjoin ! $ move ! (2 ∷ 0 ∷ []) $ use2 W (raw (Open 𝓤 H A mem run .pre to-open)) (qed W ((‵ (flft κ q) ⊛ ‵ ftrue) ∷ ‵ (owns (ShrSlice (named 0) κ u8 ∷ []) (s, tt) (v ∷ [], tt)) ∷ []) ∵ join ! $ frame ! $ done !) $ frame ! $ done !
 
@@ -210,47 +165,18 @@ module _ {M : Type 1} (𝓤 : URA M) (H : Heap 𝓤) (A : Atoms 𝓤) (W : Given
   check-said : (r : Opened) (a : Checked) → ent 𝓤 (ensured 𝓤 H A ask-check.ended (ask-check.clauses 𝓤 H A mem run) (κ, tt) (r, tt) tt a) (fact 𝓤 (a ≡ check-of r))
   check-said r a = exE 𝓤 _ (λ ws. snd∗ 𝓤 (sem 𝓤 H A (lasts ask-check.ended (κ, tt) (r, tt) ws)) (fact 𝓤 (a ≡ check-of r)))
 
-  -- the call of `row`, at the struct r with the machine value u, and what is said of r
+  -- what the three questions to the struct r are answered
   abbrev row-of : Opened → RowAnswer
   row-of r = rowAsked (now (r .image)) (r .held) n
 
-  abbrev to-row : Opened → Val → RowOf 𝓤 H A mem run .Ghost
-  to-row r u = (((κ, tt), (q, tt), tt, (r, (n, tt)), (u ∷ [], (machN n ∷ [], tt))), tt)
-
-  goes-row : (r : Opened) (u : Val) → ent 𝓤 (⋆ 𝓤 H A (‵ (B (κ, tt) .own r (u ∷ [])) ∷ (‵ (flft κ q) ⊛ ‵ ftrue) ∷ [])) (RowOf 𝓤 H A mem run .pre (to-row r u))
-  goes-row r u = qed W (‵ (B (κ, tt) .own r (u ∷ [])) ∷ (‵ (flft κ q) ⊛ ‵ ftrue) ∷ []) ∵ nothing ! $ owned ! N.the-row (Is N.the-row) (LL.makes N.the-type N′.the-plain 𝓤 H A) n _ isN $ fjoin ! $ move ! (1 ∷ 0 ∷ []) $ fjoin ! $ move ! (1 ∷ 0 ∷ []) $ join ! $ frame ! $ done !
-
-  row-said : (r : Opened) (a : RowAnswer) → ent 𝓤 (ensured 𝓤 H A ask-row.ended (ask-row.clauses 𝓤 H A mem run) (κ, tt) (r, (n, tt)) tt a) (fact 𝓤 (a ≡ row-of r))
-  row-said r a = exE 𝓤 _ (λ ws. snd∗ 𝓤 (sem 𝓤 H A (lasts ask-row.ended (κ, tt) (r, (n, tt)) ws)) (fact 𝓤 (a ≡ row-of r)))
-
-  -- the call of `capacity`, at the struct r with the machine value u, and what is said of r
   abbrev capacity-of : Opened → CapacityAnswer
   capacity-of r = capacityAsked (now (r .image)) (r .held) c
 
-  abbrev to-capacity : Opened → Val → CapacityOf 𝓤 H A mem run .Ghost
-  to-capacity r u = (((κ, tt), (q, tt), tt, (r, (c, tt)), (u ∷ [], (machX c ∷ [], tt))), tt)
-
-  goes-capacity : (r : Opened) (u : Val) → ent 𝓤 (⋆ 𝓤 H A (‵ (B (κ, tt) .own r (u ∷ [])) ∷ (‵ (flft κ q) ⊛ ‵ ftrue) ∷ [])) (CapacityOf 𝓤 H A mem run .pre (to-capacity r u))
-  goes-capacity r u = qed W (‵ (B (κ, tt) .own r (u ∷ [])) ∷ (‵ (flft κ q) ⊛ ‵ ftrue) ∷ []) ∵ nothing ! $ owned ! X.the-row (Is X.the-row) (LL.makes X.the-type X′.the-plain 𝓤 H A) c _ isX $ fjoin ! $ move ! (1 ∷ 0 ∷ []) $ fjoin ! $ move ! (1 ∷ 0 ∷ []) $ join ! $ frame ! $ done !
-
-  capacity-said : (r : Opened) (a : CapacityAnswer) → ent 𝓤 (ensured 𝓤 H A ask-capacity.ended (ask-capacity.clauses 𝓤 H A mem run) (κ, tt) (r, (c, tt)) tt a) (fact 𝓤 (a ≡ capacity-of r))
-  capacity-said r a = exE 𝓤 _ (λ ws. snd∗ 𝓤 (sem 𝓤 H A (lasts ask-capacity.ended (κ, tt) (r, (c, tt)) ws)) (fact 𝓤 (a ≡ capacity-of r)))
-
-  -- the call of `first_row`, at the struct r with the machine value u, and what is said of r
   abbrev start-of : Opened → FirstRowAnswer
   start-of r = firstRowAsked (now (r .image)) (r .held) t
 
-  abbrev to-start : Opened → Val → StartOf 𝓤 H A mem run .Ghost
-  to-start r u = (((κ, tt), (q, tt), tt, (r, (t, tt)), (u ∷ [], (machY t ∷ [], tt))), tt)
-
-  goes-start : (r : Opened) (u : Val) → ent 𝓤 (⋆ 𝓤 H A (‵ (B (κ, tt) .own r (u ∷ [])) ∷ (‵ (flft κ q) ⊛ ‵ ftrue) ∷ [])) (StartOf 𝓤 H A mem run .pre (to-start r u))
-  goes-start r u = qed W (‵ (B (κ, tt) .own r (u ∷ [])) ∷ (‵ (flft κ q) ⊛ ‵ ftrue) ∷ []) ∵ nothing ! $ owned ! Y.the-row (Is Y.the-row) (LL.makes Y.the-type Y′.the-plain 𝓤 H A) t _ isY $ fjoin ! $ move ! (1 ∷ 0 ∷ []) $ fjoin ! $ move ! (1 ∷ 0 ∷ []) $ join ! $ frame ! $ done !
-
-  start-said : (r : Opened) (a : FirstRowAnswer) → ent 𝓤 (ensured 𝓤 H A ask-start.ended (ask-start.clauses 𝓤 H A mem run) (κ, tt) (r, (t, tt)) tt a) (fact 𝓤 (a ≡ start-of r))
-  start-said r a = exE 𝓤 _ (λ ws. snd∗ 𝓤 (sem 𝓤 H A (lasts ask-start.ended (κ, tt) (r, (t, tt)) ws)) (fact 𝓤 (a ≡ start-of r)))
-
   -- the answers together: what whoever builds them owes, and what they come to
-  isR : (a₁ : Checked) (a₂ : RowAnswer) (a₃ : CapacityAnswer) (a₄ : FirstRowAnswer) → Is S₁.the-row a₁ (machS₁ a₁ ∷ []) → Is S₂.the-row a₂ (machS₂ a₂ ∷ []) → Is S₃.the-row a₃ (machS₃ a₃ ∷ []) → Is S₄.the-row a₄ (machS₄ a₄ ∷ []) → Is R.the-row (made a₁ a₂ a₃ a₄) (machR (made a₁ a₂ a₃ a₄) ∷ [])
+  isR : (a₁ : Checked) (a₂ : RowAnswer) (a₃ : CapacityAnswer) (a₄ : FirstRowAnswer) → Is S₁.the-row a₁ (EL.val S₁.the-type S₁′.the-laws a₁ ∷ []) → Is S₂.the-row a₂ (EL.val S₂.the-type S₂′.the-laws a₂ ∷ []) → Is S₃.the-row a₃ (EL.val S₃.the-type S₃′.the-laws a₃ ∷ []) → Is S₄.the-row a₄ (EL.val S₄.the-type S₄′.the-laws a₄ ∷ []) → Is R.the-row (made a₁ a₂ a₃ a₄) (machR (made a₁ a₂ a₃ a₄) ∷ [])
   isR a₁ a₂ a₃ a₄ is₁ is₂ is₃ is₄ = LL.owes R.the-type R′.the-laws (made a₁ a₂ a₃ a₄) (is₁, (is₂, (is₃, (is₄, tt))))
 
   come : (r : Opened) (a₁ : Checked) (a₂ : RowAnswer) (a₃ : CapacityAnswer) (a₄ : FirstRowAnswer) → r ≡ openedOf s → a₁ ≡ check-of r → a₂ ≡ row-of r → a₃ ≡ capacity-of r → a₄ ≡ start-of r → made a₁ a₂ a₃ a₄ ≡ answersOf (now s) n c t
@@ -264,14 +190,14 @@ module _ {M : Type 1} (𝓤 : URA M) (H : Heap 𝓤) (A : Atoms 𝓤) (W : Given
   exits : (a : Answers) → a ≡ answersOf (now s) n c t → Is R.the-row a (machR a ∷ []) → ent 𝓤 (⋆ 𝓤 H A ((‵ (flft κ q) ⊛ ‵ ftrue) ∷ ‵ Own ∷ [])) (Post (machR a))
   exits a e is =
       qed W ((‵ (flft κ q) ⊛ ‵ ftrue) ∷ ‵ Own ∷ []) ∵
-      suffices ! _ (ends-at 𝓤 H A f.ended stayed (f.clauses 𝓤 H A mem run) W (((κ, tt), (q, tt), tt, (s, (n, (c, (t, tt)))), (v ∷ [], (machN n ∷ [], (machX c ∷ [], (machY t ∷ [], tt))))), tt) (machR a) a (tt, (tt, (tt, (tt, tt)))) (tt, (tt, (tt, (tt, tt))))) $ says ! e $
+      suffices ! _ (ends-at 𝓤 H A f.ended stayed (f.clauses 𝓤 H A mem run) W (((κ, tt), (q, tt), tt, (s, (n, (c, (t, tt)))), (v ∷ [], (machN rows n ∷ [], (machN capacities c ∷ [], (machN starts t ∷ [], tt))))), tt) (machR a) a (tt, (tt, (tt, (tt, tt)))) (tt, (tt, (tt, (tt, tt))))) $ says ! e $
       owned ! R.the-row (Is R.the-row) (LL.makes R.the-type R′.the-plain 𝓤 H A) a _ is $
       move ! (1 ∷ []) $ frame ! $ nothing ! $ owned ! Y.the-row (Is Y.the-row) (LL.makes Y.the-type Y′.the-plain 𝓤 H A) t _ isY $ fjoin ! $ owned ! X.the-row (Is X.the-row) (LL.makes X.the-type X′.the-plain 𝓤 H A) c _ isX $ fjoin ! $ owned ! N.the-row (Is N.the-row) (LL.makes N.the-type N′.the-plain 𝓤 H A) n _ isN $ fjoin ! $ move ! (2 ∷ 0 ∷ []) $ fjoin ! $ frame ! $ done !
 
-  module _ (C : Calls 𝓤 H) (Λ : Loops 𝓤 H) (fm : FmC 𝓤 H (W .laws) C) (known-open : Triple 𝓤 (C #open) (Open 𝓤 H A mem run)) (known-check : Triple 𝓤 (C #check) (Check 𝓤 H A mem run)) (known-row : Triple 𝓤 (C #row) (RowOf 𝓤 H A mem run)) (known-capacity : Triple 𝓤 (C #capacity) (CapacityOf 𝓤 H A mem run)) (known-start : Triple 𝓤 (C #start) (StartOf 𝓤 H A mem run)) where
-    walk : Is (ShrSlice (named 0) κ u8) s (v ∷ []) → ent 𝓤 (onEntry 𝓤 H A f.signature (κ, tt) (q, tt) (s, (n, (c, (t, tt)))) (v ∷ [], (machN n ∷ [], (machX c ∷ [], (machY t ∷ [], tt))))) (WpFn 𝓤 H C Λ code.function (v ∷ machN n ∷ machX c ∷ machY t ∷ []) Post)
+  module _ (C : Calls 𝓤 H) (Λ : Loops 𝓤 H) (fm : FmC 𝓤 H (W .laws) C) (known-open : Triple 𝓤 (C #open) (Open 𝓤 H A mem run)) (known-check : Triple 𝓤 (C #check) (Check 𝓤 H A mem run)) (known-row : Triple 𝓤 (C #row) (Asks rows 𝓤 H A)) (known-capacity : Triple 𝓤 (C #capacity) (Asks capacities 𝓤 H A)) (known-start : Triple 𝓤 (C #start) (Asks starts 𝓤 H A)) where
+    walk : Is (ShrSlice (named 0) κ u8) s (v ∷ []) → ent 𝓤 (onEntry 𝓤 H A f.signature (κ, tt) (q, tt) (s, (n, (c, (t, tt)))) (v ∷ [], (machN rows n ∷ [], (machN capacities c ∷ [], (machN starts t ∷ [], tt))))) (WpFn 𝓤 H C Λ code.function (v ∷ machN rows n ∷ machN capacities c ∷ machN starts t ∷ []) Post)
     walk p =
-        qed W (raw (onEntry 𝓤 H A f.signature (κ, tt) (q, tt) (s, (n, (c, (t, tt)))) (v ∷ [], (machN n ∷ [], (machX c ∷ [], (machY t ∷ [], tt))))) ∷ []) ∵ enter ! C Λ code.function (v ∷ machN n ∷ machX c ∷ machY t ∷ []) _ $
+        qed W (raw (onEntry 𝓤 H A f.signature (κ, tt) (q, tt) (s, (n, (c, (t, tt)))) (v ∷ [], (machN rows n ∷ [], (machN capacities c ∷ [], (machN starts t ∷ [], tt))))) ∷ []) ∵ enter ! C Λ code.function (v ∷ machN rows n ∷ machN capacities c ∷ machN starts t ∷ []) _ $
         alloc1 ! (λ l₀. alloc1 ! (λ l₁. alloc1 ! (λ l₂. alloc1 ! (λ l₃. alloc1 ! (λ l₄. alloc1 ! (λ l₅. alloc1 ! (λ l₆. alloc1 ! (λ l₇. alloc1 ! (λ l₈. alloc1 ! (λ l₉. alloc1 ! (λ l₁₀. alloc1 ! (λ l₁₁. alloc1 ! (λ l₁₂. alloc1 ! (λ l₁₃. alloc0 ! $ params1 ! $
         pass1 ! (init ! 24 refl (shr-slice-lawful 𝓤 H A W (named 0) κ u8 .typed s (v ∷ []) p .0)) $ pass1 ! (init ! 22 refl (LL.lawful N.the-type N′.the-laws 𝓤 H A W .typed n _ isN .0)) $ pass1 ! (init ! 20 refl (LL.lawful X.the-type X′.the-laws 𝓤 H A W .typed c _ isX .0)) $ pass1 ! (init ! 18 refl (LL.lawful Y.the-type Y′.the-laws 𝓤 H A W .typed t _ isY .0)) $ pass0 ! $
         -- open(_1)
@@ -293,45 +219,30 @@ module _ {M : Type 1} (𝓤 : URA M) (H : Heap 𝓤) (A : Atoms 𝓤) (W : Given
         drop ! $ move ! (1 ∷ []) $
         -- row(_9, _2)
         assigns ! (of-opd ! (load ! (from ! (stop !)) (look ! 19 refl))) (from ! (stop !)) (init ! 11 refl (LL.lawful (T.the-type αᵉ) (T′.the-laws αᵉ) 𝓤 H A W .typed r _ is .0)) $
-        use1 W (‵ (B (κ, tt) .own r (u ∷ [])) ⊛ ‵ (B (κ, tt) .own r (u ∷ []))) (LL.copy D (T′.the-copy (namedLft 1 0 tt (κ, tt))) 𝓤 H A W .twice r (u ∷ [])) $ split ! $ move ! (0 ∷ 2 ∷ []) $ use2 W (raw (RowOf 𝓤 H A mem run .pre (to-row r u))) (goes-row r u) $
-        calls-at ! fm (RowOf 𝓤 H A mem run) known-row (to-row r u) (and-then ! (load ! (from ! (stop !)) (look ! 11 refl)) (and-then ! (load ! (from ! (stop !)) (look ! 25 refl)) (no-more !))) (λ u₂.
-        use1 W (later (some (λ (a : RowAnswer). ((‵ (flft κ q) ⊛ ‵ ftrue) ⊛ ‵ (S₂.the-row .own a (u₂ ∷ []))) ⊛ raw (ensured 𝓤 H A ask-row.ended (ask-row.clauses 𝓤 H A mem run) (κ, tt) (r, (n, tt)) tt a)))) (id⊢ 𝓤 _) $ await ! tt $ pick ! (λ a₂.
-        split ! $ move ! (1 ∷ []) $ use1 W (raw (fact 𝓤 (a₂ ≡ row-of r))) (row-said r a₂) $ heard ! (a₂ ≡ row-of r) (λ e₂. split ! $ move ! (1 ∷ []) $
-        peeks ! S₂.the-row (Is S₂.the-row) (shows 𝓤 H A S₂.the-row) a₂ (u₂ ∷ []) (λ is₂.
-        land ! (from ! (stop !)) (init ! 14 refl (EL.lawful S₂.the-type S₂′.the-laws 𝓤 H A W tt .typed a₂ _ is₂ .0)) $ rewrite ! 14 (λ (z : Val). ‵ (fat fullShare S₂′.mir l₈ 0 z)) (ap only (EL.tells S₂.the-type S₂′.the-laws a₂ (u₂ ∷ []) is₂)) refl $
-        drop ! $ move ! (1 ∷ []) $
+        question rows ! fm known-row κ q r u n isN (and-then ! (load ! (from ! (stop !)) (look ! 11 refl)) (and-then ! (load ! (from ! (stop !)) (look ! 25 refl)) (no-more !))) (λ u₂ a₂ e₂ is₂.
+        land ! (from ! (stop !)) (init ! 13 refl (EL.lawful S₂.the-type S₂′.the-laws 𝓤 H A W tt .typed a₂ _ is₂ .0)) $ rewrite ! 13 (λ (z : Val). ‵ (fat fullShare S₂′.mir l₈ 0 z)) (ap only (EL.tells S₂.the-type S₂′.the-laws a₂ (u₂ ∷ []) is₂)) refl $
         -- capacity(_11, _3)
         assigns ! (of-opd ! (load ! (from ! (stop !)) (look ! 19 refl))) (from ! (stop !)) (init ! 7 refl (LL.lawful (T.the-type αᵉ) (T′.the-laws αᵉ) 𝓤 H A W .typed r _ is .0)) $
-        use1 W (‵ (B (κ, tt) .own r (u ∷ [])) ⊛ ‵ (B (κ, tt) .own r (u ∷ []))) (LL.copy D (T′.the-copy (namedLft 1 0 tt (κ, tt))) 𝓤 H A W .twice r (u ∷ [])) $ split ! $ move ! (0 ∷ 2 ∷ []) $ use2 W (raw (CapacityOf 𝓤 H A mem run .pre (to-capacity r u))) (goes-capacity r u) $
-        calls-at ! fm (CapacityOf 𝓤 H A mem run) known-capacity (to-capacity r u) (and-then ! (load ! (from ! (stop !)) (look ! 7 refl)) (and-then ! (load ! (from ! (stop !)) (look ! 23 refl)) (no-more !))) (λ u₃.
-        use1 W (later (some (λ (a : CapacityAnswer). ((‵ (flft κ q) ⊛ ‵ ftrue) ⊛ ‵ (S₃.the-row .own a (u₃ ∷ []))) ⊛ raw (ensured 𝓤 H A ask-capacity.ended (ask-capacity.clauses 𝓤 H A mem run) (κ, tt) (r, (c, tt)) tt a)))) (id⊢ 𝓤 _) $ await ! tt $ pick ! (λ a₃.
-        split ! $ move ! (1 ∷ []) $ use1 W (raw (fact 𝓤 (a₃ ≡ capacity-of r))) (capacity-said r a₃) $ heard ! (a₃ ≡ capacity-of r) (λ e₃. split ! $ move ! (1 ∷ []) $
-        peeks ! S₃.the-row (Is S₃.the-row) (shows 𝓤 H A S₃.the-row) a₃ (u₃ ∷ []) (λ is₃.
-        land ! (from ! (stop !)) (init ! 10 refl (EL.lawful S₃.the-type S₃′.the-laws 𝓤 H A W tt .typed a₃ _ is₃ .0)) $ rewrite ! 10 (λ (z : Val). ‵ (fat fullShare S₃′.mir l₁₀ 0 z)) (ap only (EL.tells S₃.the-type S₃′.the-laws a₃ (u₃ ∷ []) is₃)) refl $
-        drop ! $ move ! (1 ∷ []) $
+        question capacities ! fm known-capacity κ q r u c isX (and-then ! (load ! (from ! (stop !)) (look ! 7 refl)) (and-then ! (load ! (from ! (stop !)) (look ! 23 refl)) (no-more !))) (λ u₃ a₃ e₃ is₃.
+        land ! (from ! (stop !)) (init ! 9 refl (EL.lawful S₃.the-type S₃′.the-laws 𝓤 H A W tt .typed a₃ _ is₃ .0)) $ rewrite ! 9 (λ (z : Val). ‵ (fat fullShare S₃′.mir l₁₀ 0 z)) (ap only (EL.tells S₃.the-type S₃′.the-laws a₃ (u₃ ∷ []) is₃)) refl $
         -- first_row(_13, _4)
         assigns ! (of-opd ! (load ! (from ! (stop !)) (look ! 19 refl))) (from ! (stop !)) (init ! 3 refl (LL.lawful (T.the-type αᵉ) (T′.the-laws αᵉ) 𝓤 H A W .typed r _ is .0)) $
-        use1 W (‵ (B (κ, tt) .own r (u ∷ [])) ⊛ ‵ (B (κ, tt) .own r (u ∷ []))) (LL.copy D (T′.the-copy (namedLft 1 0 tt (κ, tt))) 𝓤 H A W .twice r (u ∷ [])) $ split ! $ move ! (0 ∷ 2 ∷ []) $ use2 W (raw (StartOf 𝓤 H A mem run .pre (to-start r u))) (goes-start r u) $
-        calls-at ! fm (StartOf 𝓤 H A mem run) known-start (to-start r u) (and-then ! (load ! (from ! (stop !)) (look ! 3 refl)) (and-then ! (load ! (from ! (stop !)) (look ! 21 refl)) (no-more !))) (λ u₄.
-        use1 W (later (some (λ (a : FirstRowAnswer). ((‵ (flft κ q) ⊛ ‵ ftrue) ⊛ ‵ (S₄.the-row .own a (u₄ ∷ []))) ⊛ raw (ensured 𝓤 H A ask-start.ended (ask-start.clauses 𝓤 H A mem run) (κ, tt) (r, (t, tt)) tt a)))) (id⊢ 𝓤 _) $ await ! tt $ pick ! (λ a₄.
-        split ! $ move ! (1 ∷ []) $ use1 W (raw (fact 𝓤 (a₄ ≡ start-of r))) (start-said r a₄) $ heard ! (a₄ ≡ start-of r) (λ e₄. split ! $ move ! (1 ∷ []) $
-        peeks ! S₄.the-row (Is S₄.the-row) (shows 𝓤 H A S₄.the-row) a₄ (u₄ ∷ []) (λ is₄.
-        land ! (from ! (stop !)) (init ! 6 refl (EL.lawful S₄.the-type S₄′.the-laws 𝓤 H A W tt .typed a₄ _ is₄ .0)) $ rewrite ! 6 (λ (z : Val). ‵ (fat fullShare S₄′.mir l₁₂ 0 z)) (ap only (EL.tells S₄.the-type S₄′.the-laws a₄ (u₄ ∷ []) is₄)) refl $
-        drop ! $ move ! (1 ∷ []) $
+        question starts ! fm known-start κ q r u t isY (and-then ! (load ! (from ! (stop !)) (look ! 3 refl)) (and-then ! (load ! (from ! (stop !)) (look ! 21 refl)) (no-more !))) (λ u₄ a₄ e₄ is₄.
+        land ! (from ! (stop !)) (init ! 5 refl (EL.lawful S₄.the-type S₄′.the-laws 𝓤 H A W tt .typed a₄ _ is₄ .0)) $ rewrite ! 5 (λ (z : Val). ‵ (fat fullShare S₄′.mir l₁₂ 0 z)) (ap only (EL.tells S₄.the-type S₄′.the-laws a₄ (u₄ ∷ []) is₄)) refl $
         -- the four together
-        drop ! $ assigns ! (agg ! (and-then ! (load ! (from ! (stop !)) (look ! 16 refl)) (and-then ! (load ! (from ! (stop !)) (look ! 12 refl)) (and-then ! (load ! (from ! (stop !)) (look ! 8 refl)) (and-then ! (load ! (from ! (stop !)) (look ! 4 refl)) (no-more !)))))) (from ! (stop !)) (init ! 28 refl (LL.lawful R.the-type R′.the-laws 𝓤 H A W .typed (made a₁ a₂ a₃ a₄) _ (isR a₁ a₂ a₃ a₄ (isS₁ a₁ u₁ is₁) (isS₂ a₂ u₂ is₂) (isS₃ a₃ u₃ is₃) (isS₄ a₄ u₄ is₄)) .0)) $
+        drop ! $ assigns ! (agg ! (and-then ! (load ! (from ! (stop !)) (look ! 16 refl)) (and-then ! (load ! (from ! (stop !)) (look ! 12 refl)) (and-then ! (load ! (from ! (stop !)) (look ! 8 refl)) (and-then ! (load ! (from ! (stop !)) (look ! 4 refl)) (no-more !)))))) (from ! (stop !)) (init ! 28 refl (LL.lawful R.the-type R′.the-laws 𝓤 H A W .typed (made a₁ a₂ a₃ a₄) _ (isR a₁ a₂ a₃ a₄ (spelled S₁.the-type S₁′.the-laws a₁ u₁ is₁) (spelled S₂.the-type S₂′.the-laws a₂ u₂ is₂) (spelled S₃.the-type S₃′.the-laws a₃ u₃ is₃) (spelled S₄.the-type S₄′.the-laws a₄ u₄ is₄)) .0)) $
         returns ! (look ! 28 refl) $ forget ! 2 refl $ forget ! 4 refl $ forget ! 6 refl $ forget ! 8 refl $ forget ! 10 refl $ forget ! 12 refl $ forget ! 14 refl $ forget ! 16 refl $ forget ! 18 refl $ forget ! 20 refl $ forget ! 22 refl $ forget ! 24 refl $ forget ! 26 refl $ forget ! 28 refl $
         move ! (28 ∷ 29 ∷ []) $ free1 ! $ move ! (26 ∷ 27 ∷ []) $ free1 ! $ move ! (24 ∷ 25 ∷ []) $ free1 ! $ move ! (22 ∷ 23 ∷ []) $ free1 ! $ move ! (20 ∷ 21 ∷ []) $ free1 ! $ move ! (18 ∷ 19 ∷ []) $ free1 ! $ move ! (16 ∷ 17 ∷ []) $ free1 ! $ move ! (14 ∷ 15 ∷ []) $ free1 ! $ move ! (12 ∷ 13 ∷ []) $ free1 ! $ move ! (10 ∷ 11 ∷ []) $ free1 ! $ move ! (8 ∷ 9 ∷ []) $ free1 ! $ move ! (6 ∷ 7 ∷ []) $ free1 ! $ move ! (4 ∷ 5 ∷ []) $ free1 ! $ move ! (2 ∷ 3 ∷ []) $ free1 ! $ free0 ! $
-        by ! (exits (made a₁ a₂ a₃ a₄) (come r a₁ a₂ a₃ a₄ e e₁ e₂ e₃ e₄) (isR a₁ a₂ a₃ a₄ (isS₁ a₁ u₁ is₁) (isS₂ a₂ u₂ is₂) (isS₃ a₃ u₃ is₃) (isS₄ a₄ u₄ is₄)))))))))))))))))))))))))))))))))))))
+        by ! (exits (made a₁ a₂ a₃ a₄) (come r a₁ a₂ a₃ a₄ e e₁ e₂ e₃ e₄) (isR a₁ a₂ a₃ a₄ (spelled S₁.the-type S₁′.the-laws a₁ u₁ is₁) (spelled S₂.the-type S₂′.the-laws a₂ u₂ is₂) (spelled S₃.the-type S₃′.the-laws a₃ u₃ is₃) (spelled S₄.the-type S₄′.the-laws a₄ u₄ is₄))))))))))))))))))))))))))))
 
 module _ {M : Type 1} (𝓤 : URA M) (H : Heap 𝓤) (A : Atoms 𝓤) (W : Given 𝓤 H A) (mem : Memory → SProp 𝓤) (run : Routine → Fun 𝓤) where
-  f-walks : (C : Calls 𝓤 H) (Λ : Loops 𝓤 H) → FmC 𝓤 H (W .laws) C → Triple 𝓤 (C #open) (Open 𝓤 H A mem run) → Triple 𝓤 (C #check) (Check 𝓤 H A mem run) → Triple 𝓤 (C #row) (RowOf 𝓤 H A mem run) → Triple 𝓤 (C #capacity) (CapacityOf 𝓤 H A mem run) → Triple 𝓤 (C #start) (StartOf 𝓤 H A mem run)
+  f-walks : (C : Calls 𝓤 H) (Λ : Loops 𝓤 H) → FmC 𝓤 H (W .laws) C → Triple 𝓤 (C #open) (Open 𝓤 H A mem run) → Triple 𝓤 (C #check) (Check 𝓤 H A mem run) → Triple 𝓤 (C #row) (Asks rows 𝓤 H A) → Triple 𝓤 (C #capacity) (Asks capacities 𝓤 H A) → Triple 𝓤 (C #start) (Asks starts 𝓤 H A)
       → Walks 𝓤 H A f.ended stayed (WpFn 𝓤 H C Λ code.function) (f.clauses 𝓤 H A mem run)
   f-walks C Λ fm known-open known-check known-row known-capacity known-start = walked 𝓤 H A f.ended stayed (f.clauses 𝓤 H A mem run) (WpFn 𝓤 H C Λ code.function) (λ κs. (slice-vals, (LL.vals N.the-type N′.the-laws, (LL.vals X.the-type X′.the-laws, (LL.vals Y.the-type Y′.the-laws, tt))))) (λ κs. (shr-slice-tells (named 0) (κs .0) u8, (LL.tells N.the-type N′.the-laws, (LL.tells X.the-type X′.the-laws, (LL.tells Y.the-type Y′.the-laws, tt)))))
       (λ κs qs bounds a g are. via 𝓤 _ (fst∗ 𝓤 _ (emp 𝓤)) (walk 𝓤 H A W mem run (κs .0) (qs .0) (a .0) (a .1 .0) (are .1 .0) (a .1 .1 .0) (are .1 .1 .0) (a .1 .1 .1 .0) (are .1 .1 .1 .0) C Λ fm known-open known-check known-row known-capacity known-start (are .0)))
 
 f-meets : {M : Type 1} (𝓤 : URA M) (H : Heap 𝓤) (A : Atoms 𝓤) (W : Given 𝓤 H A) (mem : Memory → SProp 𝓤) (run : Routine → Fun 𝓤) (𝓣 : Tables 𝓤 H)
-    → Triple 𝓤 (𝓣 .C #open) (Open 𝓤 H A mem run) → Triple 𝓤 (𝓣 .C #check) (Check 𝓤 H A mem run) → Triple 𝓤 (𝓣 .C #row) (RowOf 𝓤 H A mem run) → Triple 𝓤 (𝓣 .C #capacity) (CapacityOf 𝓤 H A mem run) → Triple 𝓤 (𝓣 .C #start) (StartOf 𝓤 H A mem run)
+    → Triple 𝓤 (𝓣 .C #open) (Open 𝓤 H A mem run) → Triple 𝓤 (𝓣 .C #check) (Check 𝓤 H A mem run) → Triple 𝓤 (𝓣 .C #row) (Asks rows 𝓤 H A) → Triple 𝓤 (𝓣 .C #capacity) (Asks capacities 𝓤 H A) → Triple 𝓤 (𝓣 .C #start) (Asks starts 𝓤 H A)
     → Meets 𝓤 H A f.signature (WpFn 𝓤 H (𝓣 .C) (𝓣 .Λ) code.function) (f.spec 𝓤 H A mem run)
 f-meets 𝓤 H A W mem run 𝓣 known-open known-check known-row known-capacity known-start = walk-meets 𝓤 H A f.ended stayed W (goes-none-slice 𝓤 H A W 1 (0 ∷ []) tt (plain (λ _. u8)) yes, (goes-none 𝓤 H A W 1 (λ _. N.the-row) yes (λ κs x f. refl), (goes-none 𝓤 H A W 1 (λ _. X.the-row) yes (λ κs x f. refl), (goes-none 𝓤 H A W 1 (λ _. Y.the-row) yes (λ κs x f. refl), tt)))) (f.clauses 𝓤 H A mem run) (WpFn 𝓤 H (𝓣 .C) (𝓣 .Λ) code.function) (WpFn-mono 𝓤 H (W .laws) 𝓣 code.function)
     (f-walks 𝓤 H A W mem run (𝓣 .C) (𝓣 .Λ) (fmOf 𝓤 H (W .laws) 𝓣) known-open known-check known-row known-capacity known-start)
@@ -344,6 +255,6 @@ answers-of-spec 𝓤 H 𝓜 𝓖 𝓡 =
     (f-meets 𝓤 H (𝓖 .A) (givenOf 𝓤 H 𝓜 𝓖) (𝓜 .mem) (𝓡 .run) (tablesOf 𝓤 H 𝓜 (tables 𝓤 H 𝓜 𝓡 code.env))
     (cited 𝓤 H (Open 𝓤 H (𝓖 .A) (𝓜 .mem) (𝓡 .run)) 𝓜 𝓡 code.env #open opening-def.routine code.calls-opened·open (opening-thm.met 𝓤 H 𝓜 𝓖 𝓡))
     (cited 𝓤 H (Check 𝓤 H (𝓖 .A) (𝓜 .mem) (𝓡 .run)) 𝓜 𝓡 code.env #check ask-check-def.routine code.calls-opened·answer (ask-check-thm.met 𝓤 H 𝓜 𝓖 𝓡))
-    (cited 𝓤 H (RowOf 𝓤 H (𝓖 .A) (𝓜 .mem) (𝓡 .run)) 𝓜 𝓡 code.env #row ask-row-def.routine code.calls-opened·row (ask-row-thm.met 𝓤 H 𝓜 𝓖 𝓡))
-    (cited 𝓤 H (CapacityOf 𝓤 H (𝓖 .A) (𝓜 .mem) (𝓡 .run)) 𝓜 𝓡 code.env #capacity ask-capacity-def.routine code.calls-opened·capacity (ask-capacity-thm.met 𝓤 H 𝓜 𝓖 𝓡))
-    (cited 𝓤 H (StartOf 𝓤 H (𝓖 .A) (𝓜 .mem) (𝓡 .run)) 𝓜 𝓡 code.env #start ask-start-def.routine code.calls-opened·first-row (ask-start-thm.met 𝓤 H 𝓜 𝓖 𝓡)))
+    (cited 𝓤 H (Asks rows 𝓤 H (𝓖 .A)) 𝓜 𝓡 code.env #row ask-row-def.routine code.calls-opened·row (ask-row-thm.met 𝓤 H 𝓜 𝓖 𝓡))
+    (cited 𝓤 H (Asks capacities 𝓤 H (𝓖 .A)) 𝓜 𝓡 code.env #capacity ask-capacity-def.routine code.calls-opened·capacity (ask-capacity-thm.met 𝓤 H 𝓜 𝓖 𝓡))
+    (cited 𝓤 H (Asks starts 𝓤 H (𝓖 .A)) 𝓜 𝓡 code.env #start ask-start-def.routine code.calls-opened·first-row (ask-start-thm.met 𝓤 H 𝓜 𝓖 𝓡)))
