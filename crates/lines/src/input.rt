@@ -8,6 +8,8 @@ ghost use Rattle.lines.specs.Input.{inLine, runWord, isRun, splitOf, isB
 use crate::Pair;
 use crate::Schedule;
 use crate::Split;
+use words::NO_WORD;
+use words::NUMBER;
 use words::Word;
 use words::word_at;
 
@@ -87,7 +89,11 @@ pub fn split(input: &[u8]) -> Split
 fn is_byte(w: Word) -> bool
     ensures { λ r. ⌜ r ≡ isByte w ⌝ }
 {
-    if w.kind == 17 { w.value <= 255 } else { false }
+    if w.kind == NUMBER {
+        w.value <= 255
+    } else {
+        false
+    }
 }
 
 // The schedule where it ends behind n numbers.
@@ -108,7 +114,7 @@ pub fn schedule(rest: &[u8]) -> Schedule
     let mut n = 0;
     loop {
         let w = word_at(rest, at);
-        if w.kind == 0 {
+        if w.kind == NO_WORD {
             return ended_at(n);
         }
         if is_byte(w) {

@@ -17,8 +17,6 @@ use crate::kinds::FORWARD;
 use crate::kinds::IFOK;
 use crate::kinds::LAP_LIMIT;
 use crate::kinds::NIL;
-use crate::kinds::NO_WORD;
-use crate::kinds::NUMBER;
 use crate::kinds::NUMBER_DUE;
 use crate::kinds::NUMBER_OVER_RANGE;
 use crate::kinds::RANGE;
@@ -35,6 +33,8 @@ use crate::kinds::WORD_OUT_OF_PLACE;
 use meaning::Chan;
 use meaning::Op;
 use meaning::Port;
+use words::NO_WORD;
+use words::NUMBER;
 use words::Word;
 use words::word_at;
 

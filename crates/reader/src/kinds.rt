@@ -1,6 +1,4 @@
-// The kinds of words, the limits and the refusals of document 01, each number under one name.
-
-pub const NO_WORD: u8 = 0;
+// The kinds of the reserved words, the limits and the refusals of document 01, each number under one name.
 
 pub const CHAN: u8 = 1;
 
@@ -33,8 +31,6 @@ pub const STOP: u8 = 14;
 pub const END: u8 = 15;
 
 pub const NIL: u8 = 16;
-
-pub const NUMBER: u8 = 17;
 
 pub const TEXT_LIMIT: usize = 16384;
 

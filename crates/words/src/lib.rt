@@ -28,7 +28,14 @@ const WORDS: [[u8; 8]; 16] = [
 
 const LENGTHS: [u8; 16] = [4, 4, 4, 7, 4, 5, 5, 6, 4, 4, 6, 4, 7, 4, 3, 3];
 
-// A word of a text: its kind (0 where the text has ended, k + 1 for reserved word k, 17 for a number, 18 for any other word), its
+// The kinds of words beside the reserved ones, whose kinds are 1 to 16 in the table's order.
+pub const NO_WORD: u8 = 0;
+
+pub const NUMBER: u8 = 17;
+
+pub const OTHER_WORD: u8 = 18;
+
+// A word of a text: its kind (NO_WORD where the text has ended, k + 1 for reserved word k, NUMBER, or OTHER_WORD), its
 // value if it is a number and 0 otherwise, where it begins, and the place behind it.
 pub struct Word {
     pub kind: u8,
@@ -224,20 +231,20 @@ fn kind_of(word: &[u8]) -> u8
     ensures { λ r. ⌜ r ≡ kindOf (now (word .entry)) ⌝ }
 {
     if word.len() == 0 {
-        return 0;
+        return NO_WORD;
     }
     if is_number(word) {
-        return 17;
+        return NUMBER;
     }
     let k = place_of(word);
-    if k < 16 { k + 1 } else { 18 }
+    if k < 16 { k + 1 } else { OTHER_WORD }
 }
 
 fn value_of(word: &[u8], kind: u8) -> u32
     requires { ⌜ kind ≡ kindOf (now word) ⌝ }
     ensures { λ r. ⌜ r ≡ valueOf (now (word .entry)) ⌝ }
 {
-    if kind == 17 { numeral_of(word) } else { 0 }
+    if kind == NUMBER { numeral_of(word) } else { 0 }
 }
 
 // The word that begins at the first byte from `at` on that is no blank.
@@ -247,7 +254,7 @@ pub fn word_at(text: &[u8], at: usize) -> Word
     let start = skip_blanks(text, at);
     if text.len() <= start {
         return Word {
-            kind: 0,
+            kind: NO_WORD,
             value: 0,
             start: start,
             next: start,
