@@ -7,3 +7,5 @@ pub mod Image
 pub mod Layout
 pub mod Bytes
 pub mod Examples
+-- Laws that the crates above share; nothing to believe.
+pub mod Tests
