@@ -1,6 +1,6 @@
 -- Document 01, 'Step image': a step image as bytes, written and read. Numbers are low byte first.
 use mathlib.Core.Bool.{cond}
-use mathlib.Core.List.{List, [], _∷_, _++_, map}
+use mathlib.Core.List.{List, [], _∷_, _++_}
 use Prim.Native.Nat.{ℕ, zero, suc, _+_, _-_, _*_, _/_, _%_}
 use lib.ListN.{length, getD, drop}
 use lib.Dec.{eqb, leb}

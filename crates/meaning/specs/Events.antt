@@ -1,7 +1,5 @@
 -- Document 01, 'What comes back', the turn events: the number, channel, value and partner of each.
 use Prim.Native.Nat.{ℕ}
-use Rattle.meaning.specs.declared.Task.{Task}
-use Rattle.meaning.specs.declared.Chan.{Chan}
 use Rattle.meaning.specs.declared.Port.{Port}
 use Rattle.meaning.specs.declared.Port.the-variants.{Nil, On}
 use Rattle.meaning.specs.declared.Event.{Event}

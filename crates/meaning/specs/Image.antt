@@ -6,7 +6,6 @@ use Prim.Native.Nat.{ℕ, zero, suc}
 use lib.ListN.{getD, set, replicate}
 use lib.Dec.{ltb}
 use Rattle.meaning.specs.declared.Row.{Row}
-use Rattle.meaning.specs.declared.Op.{Op}
 use Rattle.meaning.specs.declared.Op.the-variants.{Recv}
 use Rattle.meaning.specs.declared.Otherwise.{Otherwise}
 use Rattle.meaning.specs.declared.Otherwise.the-variants.{Wait, Go}

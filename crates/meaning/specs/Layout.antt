@@ -1,6 +1,6 @@
 -- Document 01, 'Step image': where the rows of a text stand, and which rows their fields name.
-use mathlib.Core.List.{List, [], _∷_, _++_, map}
-use Prim.Native.Nat.{ℕ, zero, suc, _+_}
+use mathlib.Core.List.{List, [], _∷_, _++_}
+use Prim.Native.Nat.{ℕ, suc, _+_}
 use Rattle.meaning.specs.declared.Row.{Row}
 use Rattle.meaning.specs.declared.Otherwise.{Otherwise}
 use Rattle.meaning.specs.declared.Otherwise.the-variants.{Wait, Go}

@@ -1,5 +1,5 @@
 -- Document 01, 'Job text' and 'Meaning of a text': nested statements, and what a task's remainder does next. No rows here.
-use mathlib.Core.Bool.{Bool, cond}
+use mathlib.Core.Bool.{cond}
 use mathlib.Core.Option.{Option, none, some}
 use mathlib.Core.List.{List, [], _∷_, map}
 use Prim.Native.Nat.{ℕ, suc}
