@@ -3,12 +3,12 @@
 use mathlib.Core.Path.{_≡_, refl, sym, ap, _∙_}
 use mathlib.Core.Bool.{Bool, true, false, cond, not, _&&_}
 use mathlib.Core.List.{List}
-use Prim.Native.Nat.{ℕ, zero, suc, _+_, _-_, _*_, _≤_, _<_}
+use Prim.Native.Nat.{ℕ, zero, suc, _+_, _-_, _≤_, _<_}
 use native.Mathlib.Nat.{add-zero, zero-add}
 use native.Mathlib.Omega.{arith}
 use borrow.Author.Tests.{ltb-true, ltb-false, leb-true, eqb-true, lt-ltb, lt-leb, not-true, not-false}
 use lib.Dec.{eqb, leb, ltb}
-use lib.ListN.{length, drop, length-drop}
+use lib.ListN.{length, length-drop}
 use Rattle.meaning.specs.declared.Row.{Row}
 use Rattle.meaning.specs.declared.Port.{Port}
 use Rattle.meaning.specs.declared.Port.the-variants.{Nil, On}
@@ -22,6 +22,7 @@ use Rattle.meaning.specs.declared.Fields.{Fields}
 use Rattle.meaning.specs.Numbers.{rowLimit, channelLimit, taskLimit, capacityLimit, caseLimit, lapLimit, depthLimit, imageTooShort, badMark, badVersion, badCounts, badDistance, badRow, badCapacity, badFirstRow}
 use Rattle.meaning.specs.Image.{rowNo}
 use Rattle.meaning.specs.Bytes.{statementOf, trailerSize, imageMark, imageVersion, markOf, versionOf, spanOf, rowCount, channelCount, taskCount, distance, bodyOf, fieldsOfRow, rowsIn, capacityIn, firstRowIn}
+use Rattle.meaning.specs.Tests.{both}
 use Rattle.rows.specs.declared.Counts.{Counts}
 use Rattle.rows.specs.Rows.{countsIn, countsOf}
 use Rattle.image.specs.declared.Checked.{Checked}
@@ -88,12 +89,6 @@ pub record Sound (bs : List ℕ) : Type 0 where
   pub firsts : (t : ℕ) → t < taskCount bs → Target (bodyOf bs) (rowCount bs) (firstRowIn (bodyOf bs) (rowCount bs) (channelCount bs) t)
 
 -- FROM THE TESTS TO THE FACTS
-
-both : (a b : Bool) → (a && b) ≡ true → (a ≡ true) × (b ≡ true)
-both true true e = (refl, refl)
-both true false e = (refl, e)
-both false true e = (e, refl)
-both false false e = (e, e)
 
 and-false-at : (a b : Bool) → b ≡ false → (a && b) ≡ false
 and-false-at true b e = e

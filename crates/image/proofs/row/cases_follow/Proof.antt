@@ -5,7 +5,7 @@ use Rattle.image.specs.Check.{casesFollow}
 use borrow.Author.Tests.{lt-ltb, le-ltb}
 use denote.Ref.{now}
 use native.Mathlib.Omega.{arith}
-use Prim.Native.Nat.{suc, _≤_, _-_}
+use Prim.Native.Nat.{suc, _≤_}
 use mathlib.Core.Path.{_≡_, sym, _∙_}
 use Rattle.image.proofs.row.cases_follow.Statement.{statement}
 use Rattle.image.proofs.row.cases_follow.Tie as tie
