@@ -1,14 +1,15 @@
 -- What append and take come to, in the values that a channel holds, oldest first.
-use mathlib.Core.Path.{_≡_, refl, ap, _∙_}
-use mathlib.Core.Bool.{Bool, true, false, _&&_}
+use mathlib.Core.Path.{_≡_, ap, _∙_}
+use mathlib.Core.Bool.{true, false}
 use mathlib.Core.List.{List, [], _∷_, _++_}
-use Prim.Native.Nat.{ℕ, _+_, _-_, _≤_, _<_}
+use Prim.Native.Nat.{ℕ, _-_, _≤_, _<_}
 use native.Mathlib.Numerals.{add-one}
 use native.Mathlib.Omega.{arith}
 use borrow.Author.Tests.{leb-true, ltb-true}
 use lib.ListN.{length, take, drop, length-take, length-drop}
 use lib.Seq.{take-suc-set, drop-cons, getD-take}
 use Rattle.meaning.specs.Numbers.{capacityLimit}
+use Rattle.meaning.specs.Tests.{both}
 use Rattle.state.specs.Cells.{take-over}
 use Rattle.state.specs.State.{noValues}
 use Rattle.lent.specs.declared.Channel.{Channel}
@@ -17,12 +18,6 @@ use Rattle.lent.specs.Channels.{hasRoom, hasValue, oldest, shorter, appe
 
 abbrev pub contents : Channel → List ℕ
 contents c = take (c .len) (c .values)
-
-both : (a b : Bool) → (a && b) ≡ true → (a ≡ true) × (b ≡ true)
-both true true e = (refl, refl)
-both true false e = (refl, e)
-both false true e = (e, refl)
-both false false e = (e, e)
 
 -- Append puts v behind the youngest value, where there is room.
 pub append-adds : (c : Channel) (v : ℕ) → length (c .values) ≡ capacityLimit → hasRoom c ≡ true → (appendedTo c v .ok ≡ true) × (contents (appendedTo c v .channel) ≡ contents c ++ (v ∷ []))
