@@ -1,6 +1,6 @@
 -- One step of each definition, at a place of a word or of the table. Assumes nothing.
 use mathlib.Core.Path.{_≡_, refl, sym, ap, _∙_}
-use mathlib.Core.Bool.{Bool, true, false, not, _&&_}
+use mathlib.Core.Bool.{Bool, true, false, not, _&&_, and-false}
 use mathlib.Core.List.{List, [], _∷_}
 use Prim.Native.Nat.{ℕ, suc, _+_, _-_, _*_, _≤_, _<_, min}
 use native.Mathlib.Numerals.{add-one}
@@ -17,11 +17,7 @@ unfolding sameWord
 unequal [] [] d = absurd (d refl)
 unequal [] (y ∷ w) d = refl
 unequal (x ∷ u) [] d = refl
-unequal (x ∷ u) (y ∷ w) d = rw (unequal u w (λ q. d (ap suc q))) (either (eqb x y))
-  where
-    either : (b : Bool) → (b && false) ≡ false
-    either true = refl
-    either false = refl
+unequal (x ∷ u) (y ∷ w) d = rw (unequal u w (λ q. d (ap suc q))) (and-false (eqb x y))
 
 -- A word and the first n bytes of a row, byte by byte.
 module _ (w row : List ℕ) (n : ℕ) (fits : n ≤ length row) where

@@ -11,6 +11,7 @@ use lib.Dec.{eqb, leb, ltb}
 use lib.ListN.{length, getD, drop, length-take, length-drop, drop-of-length-le}
 use lib.Seq.{drop-cons, getD-drop}
 use Rattle.meaning.specs.Numbers.{valueLimit}
+use Rattle.meaning.specs.Tests.{both, cond-all}
 use Rattle.words.specs.declared.Place.the-variants.{Nowhere, At}
 use Rattle.words.specs.Words.{isBlank, isDigit, isAllowed, inWord, run, reserved, sameWord, differs, placeOf, onlyDigits, leadingZero, isNumber, decimal, numberCap, numeral, noKind, numberKind, otherKind, kindOf, valueOf, startAt, nextAt, bytesAt, wordAt, firstNotAllowed}
 
@@ -44,6 +45,13 @@ module _ {A : Type 0} (p : A → Bool) where
       go true h = omega arith
       go false h = omega arith
 
+  -- A scan from the list's start: the run ends where the scan stops, and is the list where the scan comes to the end.
+  pub run-is : (l : List A) (i : ℕ) (d : A) → i < length l → p (getD l i d) ≡ false → i + run p (drop i l) ≡ run p l → run p l ≡ i
+  run-is l i d h e q = sym q ∙ sym (run-stop l i d h e)
+
+  pub run-all : (l : List A) (i : ℕ) → length l ≤ i → i + run p (drop i l) ≡ run p l → run p l ≡ length l
+  run-all l i h q = omega (arith, run-end l i h, run-within l)
+
   pub run-bound : (l : List A) (i : ℕ) → i ≤ length l → i + run p (drop i l) ≤ length l
   run-bound l i h = omega (arith, run-within (drop i l), length-drop i l)
 
@@ -67,15 +75,6 @@ module _ {A : Type 0} (p : A → Bool) where
       go false e r h = e
 
 -- TESTS
-
-by-cases : {A : Type 0} (P : A → Type 0) (b : Bool) (x y : A) → (b ≡ true → P x) → (b ≡ false → P y) → P (cond b x y)
-by-cases P true x y f g = f refl
-by-cases P false x y f g = g refl
-
-both : (a b : Bool) → (a && b) ≡ true → (a ≡ true) × (b ≡ true)
-both true b e = (refl, e)
-both false true e = (e, refl)
-both false false e = (e, e)
 
 -- A rule of a table is one test, computed at each of its first n places.
 abbrev pub below : (ℕ → Bool) → ℕ → Bool
@@ -122,11 +121,11 @@ place-word w h = same-eq w (getD reserved (placeOf w) []) (not-false (sameWord w
 pub kind-ways : (P : ℕ → Type 0) (w : List ℕ) → (length w ≡ 0 → P noKind) → (placeOf w < 16 → P (placeOf w + 1)) → (16 ≤ placeOf w → isNumber w ≡ true → P numberKind) → (16 ≤ placeOf w → isNumber w ≡ false → P otherKind) → P (kindOf w)
 unfolding kindOf
 kind-ways P w a b c d =
-    by-cases P (eqb (length w) 0) _ _
+    cond-all P (eqb (length w) 0)
     (λ e. a (eqb-true (length w) 0 e))
-    (λ _. by-cases P (ltb (placeOf w) 16) _ _
+    (λ _. cond-all P (ltb (placeOf w) 16)
     (λ e. b (ltb-true (placeOf w) 16 e))
-    (λ e. by-cases P (isNumber w) _ _ (c (ltb-false (placeOf w) 16 e)) (d (ltb-false (placeOf w) 16 e))))
+    (λ e. cond-all P (isNumber w) (c (ltb-false (placeOf w) 16 e)) (d (ltb-false (placeOf w) 16 e))))
 
 pub kind-limit : (w : List ℕ) → kindOf w ≤ otherKind
 kind-limit w = kind-ways (λ n. n ≤ otherKind) w (λ _. omega arith) (λ h. omega arith) (λ _ _. omega arith) (λ _ _. omega arith)
@@ -182,11 +181,11 @@ valued w e = rw (kind-number w e)
 
 pub valueless : (w : List ℕ) → (kindOf w ≡ numberKind → ⊥) → valueOf w ≡ 0
 unfolding valueOf
-valueless w n = by-cases (λ v. v ≡ 0) (isNumber w) _ _ (λ e. absurd (n (number-kind w e))) (λ _. refl)
+valueless w n = cond-all (λ v. v ≡ 0) (isNumber w) (λ e. absurd (n (number-kind w e))) (λ _. refl)
 
 pub value-limit : (w : List ℕ) → valueOf w ≤ numberCap
 unfolding valueOf numeral
-value-limit w = by-cases (λ n. n ≤ numberCap) (isNumber w) _ _ (λ _. omega arith) (λ _. omega arith)
+value-limit w = cond-all (λ n. n ≤ numberCap) (isNumber w) (λ _. omega arith) (λ _. omega arith)
 
 -- The cap hides nothing: within a range a number's value is exact, and what is over the range with the cap is over it without.
 pub numeral-within : (w : List ℕ) (limit : ℕ) → limit ≤ valueLimit → numeral w ≤ limit → numeral w ≡ decimal 0 w
@@ -235,7 +234,7 @@ module _ (text : List ℕ) (at : ℕ) where
   ended-word h = rw (empty-kind (bytesAt text at) (empty-bytes h), empty-value (bytesAt text at) (empty-bytes h), empty-next h)
 
   -- Where it has not: a byte that is no blank begins a word, and the word ends within the text.
-  start-no-blank : startAt text at < length text → isBlank (getD text (startAt text at) 0) ≡ false
+  pub start-no-blank : startAt text at < length text → isBlank (getD text (startAt text at) 0) ≡ false
   unfolding startAt
   start-no-blank h =
       let l : run isBlank (drop at text) < length (drop at text) = omega (arith, length-drop at text) in
@@ -327,14 +326,14 @@ module _ (text : List ℕ) where
   pub all-allowed : firstNotAllowed text ≡ Nowhere → (i : ℕ) → i < length text → isAllowed (getD text i 0) ≡ true
   unfolding firstNotAllowed
   all-allowed =
-      by-cases (λ p. p ≡ Nowhere → (i : ℕ) → i < length text → isAllowed (getD text i 0) ≡ true) (ltb (run isAllowed text) (length text)) _ _
+      cond-all (λ p. p ≡ Nowhere → (i : ℕ) → i < length text → isAllowed (getD text i 0) ≡ true) (ltb (run isAllowed text) (length text))
       (λ _ q. absurd (let z : _≡_ {A = ℕ} 0 1 = cc in omega arith))
       (λ e _ i h. let n = ltb-false (run isAllowed text) (length text) e in run-passes isAllowed text i 0 (omega arith))
 
   pub first-bad : (n : ℕ) → firstNotAllowed text ≡ At n → (n < length text) × (isAllowed (getD text n 0) ≡ false) × ((i : ℕ) → i < n → isAllowed (getD text i 0) ≡ true)
   unfolding firstNotAllowed
   first-bad n =
-      by-cases (λ p. p ≡ At n → (n < length text) × (isAllowed (getD text n 0) ≡ false) × ((i : ℕ) → i < n → isAllowed (getD text i 0) ≡ true)) (ltb (run isAllowed text) (length text)) _ _
+      cond-all (λ p. p ≡ At n → (n < length text) × (isAllowed (getD text n 0) ≡ false) × ((i : ℕ) → i < n → isAllowed (getD text i 0) ≡ true)) (ltb (run isAllowed text) (length text))
       (λ e q.
       let r : n ≡ run isAllowed text = cc in
       let h = ltb-true (run isAllowed text) (length text) e in
