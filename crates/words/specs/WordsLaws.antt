@@ -13,7 +13,7 @@ use lib.Seq.{drop-cons, getD-drop}
 use Rattle.meaning.specs.Numbers.{valueLimit}
 use Rattle.meaning.specs.Tests.{both, cond-all}
 use Rattle.words.specs.declared.Place.the-variants.{Nowhere, At}
-use Rattle.words.specs.Words.{isBlank, isDigit, isAllowed, inWord, run, reserved, sameWord, differs, placeOf, onlyDigits, leadingZero, isNumber, decimal, numberCap, numeral, noKind, numberKind, otherKind, kindOf, valueOf, startAt, nextAt, bytesAt, wordAt, firstNotAllowed}
+use Rattle.words.specs.Words.{isBlank, isDigit, isAllowed, inWord, run, reserved, sameWord, differs, placeOf, onlyDigits, leadingZero, isNumber, decimal, numeral, noKind, numberKind, otherKind, kindOf, valueOf, startAt, nextAt, bytesAt, wordAt, firstNotAllowed}
 
 -- RUNS
 
@@ -127,9 +127,6 @@ kind-ways P w a b c d =
     (λ e. b (ltb-true (placeOf w) 16 e))
     (λ e. cond-all P (isNumber w) (c (ltb-false (placeOf w) 16 e)) (d (ltb-false (placeOf w) 16 e))))
 
-pub kind-limit : (w : List ℕ) → kindOf w ≤ otherKind
-kind-limit w = kind-ways (λ n. n ≤ otherKind) w (λ _. omega arith) (λ h. omega arith) (λ _ _. omega arith) (λ _ _. omega arith)
-
 -- The table's rule: reserved word k has kind k + 1, and no other word has that kind.
 pub reserved-kind : (k : ℕ) → k < 16 → kindOf (getD reserved k []) ≡ k + 1
 unfolding kindOf placeOf run differs reserved sameWord
@@ -182,10 +179,6 @@ valued w e = rw (kind-number w e)
 pub valueless : (w : List ℕ) → (kindOf w ≡ numberKind → ⊥) → valueOf w ≡ 0
 unfolding valueOf
 valueless w n = cond-all (λ v. v ≡ 0) (isNumber w) (λ e. absurd (n (number-kind w e))) (λ _. refl)
-
-pub value-limit : (w : List ℕ) → valueOf w ≤ numberCap
-unfolding valueOf numeral
-value-limit w = cond-all (λ n. n ≤ numberCap) (isNumber w) (λ _. omega arith) (λ _. omega arith)
 
 -- The cap hides nothing: within a range a number's value is exact, and what is over the range with the cap is over it without.
 pub numeral-within : (w : List ℕ) (limit : ℕ) → limit ≤ valueLimit → numeral w ≤ limit → numeral w ≡ decimal 0 w
@@ -261,23 +254,6 @@ module _ (text : List ℕ) (at : ℕ) where
       go : (b : Bool) → ltb (startAt text at) (length text) ≡ b → length text ≤ startAt text at
       go true t = absurd (some-bytes (ltb-true _ _ t) e)
       go false t = ltb-false _ _ t
-
-  -- Its kind, and its value: the numeral where it is a number, 0 where it is not.
-  pub word-kind : wordAt text at .kind ≡ kindOf (bytesAt text at)
-  unfolding wordAt
-  word-kind = refl
-
-  pub number-value : wordAt text at .kind ≡ numberKind → wordAt text at .value ≡ numeral (bytesAt text at)
-  unfolding wordAt
-  number-value e = valued (bytesAt text at) e
-
-  pub other-value : (wordAt text at .kind ≡ numberKind → ⊥) → wordAt text at .value ≡ 0
-  unfolding wordAt
-  other-value n = valueless (bytesAt text at) n
-
-  pub word-limits : (wordAt text at .kind ≤ otherKind) × (wordAt text at .value ≤ numberCap)
-  unfolding wordAt
-  word-limits = (kind-limit (bytesAt text at), value-limit (bytesAt text at))
 
   -- A word that is not of the end's kind begins at the place or behind it, has a byte, and ends within the text.
   pub word-place : (wordAt text at .kind ≡ noKind → ⊥) → (at ≤ wordAt text at .start) × (wordAt text at .start < wordAt text at .next) × (wordAt text at .next ≤ length text)
