@@ -26,10 +26,6 @@ run-three (a ∷ b ∷ []) e = absurd (omega arith)
 run-three (a ∷ b ∷ c ∷ []) e = refl
 run-three (a ∷ b ∷ c ∷ d ∷ w) e = absurd (omega arith)
 
-pub and-true : (b : Bool) → b ≡ (b && true)
-and-true true = refl
-and-true false = refl
-
 pub run-other : (w : List ℕ) → (length w ≡ 3 → ⊥) → sameWord w runWord ≡ false
 unfolding runWord
 run-other w n = go (sameWord w runWord) refl

@@ -1,8 +1,9 @@
 use mathlib.Core.Path.{sym}
+use mathlib.Core.Bool.{and-true}
 use borrow.Author.Needs.{needs}
 use borrow.Author.Tests.{eq-eqb, ne-eqb}
 use denote.Ref.{now}
-use Rattle.lines.specs.InputLaws.{run-other, run-three, and-true}
+use Rattle.lines.specs.InputLaws.{run-other, run-three}
 use Rattle.lines.proofs.input.is_run_word.Statement.{statement}
 use Rattle.lines.proofs.input.is_run_word.Tie as tie
 
@@ -14,7 +15,7 @@ returns-3 c =
 returns-4 : tie.Need-returns-4
 returns-4 c =
     let a = c .before .before .before .before .before .before .args in
-    rw (run-three (now (a .line)) (c .before .before .before .before .before .if1 .left), eq-eqb _ _ (c .before .before .before .if2 .left), eq-eqb _ _ (c .before .if3 .left)) (and-true _)
+    rw (run-three (now (a .line)) (c .before .before .before .before .before .if1 .left), eq-eqb _ _ (c .before .before .before .if2 .left), eq-eqb _ _ (c .before .if3 .left)) (sym (and-true _))
 
 pub is-run-word-spec : {M : Type 1} → statement M
 is-run-word-spec =
