@@ -96,9 +96,6 @@ module _ {P : Type 0} (look : P → Look P) (m : Machine P) (f : Fits look m) wh
   unfolding counts
   all-counted = names-all (length (m .tasks)) (m .order) (named-below (m .order) (λ t. omega arith))
 
-  pub order-fits : length (m .order) ≤ length (m .tasks)
-  order-fits = omega (arith, all-counted, total-most counts (length (m .tasks)) once)
-
   pub spare : (t : Task) (x : Standing P) → getElem? (m .tasks) (t .0) ≡ some x → x .status ≡ Able → length (m .order) < length (m .tasks)
   unfolding counts
   spare t x h e = omega (arith, all-counted, total-less counts (length (m .tasks)) (t .0) once (at-below (m .tasks) (t .0) x h) (f .ordered t ∙ waiting-at (m .tasks) (t .0) x h ∙ ap mark e))

@@ -1,9 +1,9 @@
 -- What no turn changes, refused ones included: the number of tasks, the number of channels and their capacities.
-use mathlib.Core.Path.{_≡_, refl, sym, ap, _∙_}
+use mathlib.Core.Path.{_≡_, refl, _∙_}
 use mathlib.Core.Bool.{false}
 use mathlib.Core.List.{List, [], _∷_, map}
 use Prim.Native.Nat.{ℕ}
-use lib.ListN.{length, set, length-set, length-map}
+use lib.ListN.{length, set, length-set}
 use lib.Seq.{map-set-same}
 use Rattle.meaning.specs.declared.Task.{Task}
 use Rattle.meaning.specs.declared.Chan.{Chan}
@@ -17,9 +17,6 @@ capacitiesIn cs = map (λ c. c .capacity) cs
 pub record Steady {P : Type 0} (m n : Machine P) : Type 0 where
   pub tasks : length (n .tasks) ≡ length (m .tasks)
   pub capacities : capacitiesIn (n .channels) ≡ capacitiesIn (m .channels)
-
-pub same-channels : {P : Type 0} (m n : Machine P) → Steady m n → length (n .channels) ≡ length (m .channels)
-same-channels m n s = sym (length-map (n .channels) (λ c. c .capacity)) ∙ ap length (s .capacities) ∙ length-map (m .channels) (λ c. c .capacity)
 
 stored : (cs : List Channel) (c : Chan) (k : Channel) → k .capacity ≡ channelAt cs c .capacity → capacitiesIn (set cs (c .0) k) ≡ capacitiesIn cs
 stored cs c k e = map-set-same (λ c. c .capacity) cs (c .0) k _ e
