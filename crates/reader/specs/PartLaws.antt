@@ -15,6 +15,23 @@ use Rattle.reader.specs.declared.Counted.{Counted}
 use Rattle.reader.specs.Reading.{Part, got, none, bad, bind, misplaced, withRow, asBlock}
 use Rattle.reader.specs.Answers.{told, counted, outOfPlace}
 
+-- A PART THAT IS THERE
+
+pub none-got : {A : Type 0} {x : A} {a r : ℕ} → none ≡ got x a r → ⊥
+none-got e = let z : _≡_ {A = ℕ} 0 1 = cc in omega arith
+
+pub bad-got : {A : Type 0} {n place : ℕ} {x : A} {a r : ℕ} → bad n place ≡ got x a r → ⊥
+bad-got e = let z : _≡_ {A = ℕ} 0 1 = cc in omega arith
+
+pub same-got : {A : Type 0} {x y : A} {a b r m : ℕ} → got x a r ≡ got y b m → (x ≡ y) × (a ≡ b) × (r ≡ m)
+same-got e = (cc, cc, cc)
+
+pub bind-got : {A B : Type 0} (p : Part A) (f : A → ℕ → ℕ → Part B) {y : B} {b m : ℕ} → bind p f ≡ got y b m → (x : A) × (at : ℕ) × (r : ℕ) × (p ≡ got x at r) × (f x at r ≡ got y b m)
+unfolding bind
+bind-got (got x at r) f e = (x, at, r, refl, e)
+bind-got none f e = absurd (none-got e)
+bind-got (bad n place) f e = absurd (bad-got e)
+
 -- WHAT IS TOLD OF A PART
 
 pub done-told : {A : Type 0} (x : A) (at rows : ℕ) → Read.Done at rows ≡ told (got x at rows)

@@ -1,12 +1,11 @@
 -- Document 01, 'Job text' and the table 'given when / place': a text read, word by word from the left, as nested statements, or
 -- refused at the first bad word. The grammar is read by recursive descent; a limit is judged at the word that would pass it, ahead
 -- of the words behind it, and at one word the lowest number is given.
-use mathlib.Core.Bool.{Bool, true, false, cond}
+use mathlib.Core.Bool.{Bool, true, cond}
 use mathlib.Core.List.{List, [], _∷_}
 use Prim.Native.Nat.{ℕ, zero, suc, _+_}
 use lib.Dec.{eqb, leb, ltb}
 use lib.ListN.{length}
-use Rattle.meaning.specs.declared.Chan.{Chan}
 use Rattle.meaning.specs.declared.Port.{Port}
 use Rattle.meaning.specs.declared.Port.the-variants.{Nil, On}
 use Rattle.meaning.specs.declared.Op.{Op}

@@ -11,7 +11,7 @@ use Rattle.words.specs.declared.Word.{Word}
 use Rattle.words.specs.Words.{defaultKind, wordAt}
 use Rattle.reader.specs.Reading.{Part, got, none, bad, bind, caseBy, lastBy, casesBy, casesFrom}
 use Rattle.reader.specs.Answers.{countBy, countFrom}
-use Rattle.reader.specs.PartLaws.{All, bind-all, ways-all}
+use Rattle.reader.specs.PartLaws.{same-got, bind-got, All, bind-all, ways-all}
 use Rattle.reader.specs.SizeLaws.{SizedB, SizedCase, case-sized}
 
 -- What stands behind the last case: a default, or nothing more.
@@ -19,15 +19,6 @@ unfoldable pub behindCases : Cases → Cases
 behindCases nomore = nomore
 behindCases (default b) = default b
 behindCases (case o b cs) = behindCases cs
-
-bind-got : {A B : Type 0} (p : Part A) (f : A → ℕ → ℕ → Part B) {y : B} {b m : ℕ} → bind p f ≡ got y b m → (x : A) × (at : ℕ) × (r : ℕ) × (p ≡ got x at r) × (f x at r ≡ got y b m)
-unfolding bind
-bind-got (got x at r) f e = (x, at, r, refl, e)
-bind-got none f e = absurd (let z : _≡_ {A = ℕ} 0 1 = cc in omega arith)
-bind-got (bad n place) f e = absurd (let z : _≡_ {A = ℕ} 0 1 = cc in omega arith)
-
-same-got : {A : Type 0} {x y : A} {a b r m : ℕ} → got x a r ≡ got y b m → (x ≡ y) × (a ≡ b) × (r ≡ m)
-same-got e = (cc, cc, cc)
 
 abbrev Alone : Cases → ℕ → Type 0
 Alone cs r = (caseCount cs ≡ 0) × (behindCases cs ≡ cs)
