@@ -3,7 +3,6 @@
 use mathlib.Core.Path.{_≡_, ap, sym, subst, _∙_}
 use mathlib.Core.List.{List, _++_, map}
 use Prim.Native.Nat.{ℕ, _+_, _≤_}
-use native.Mathlib.Omega.{arith}
 use lib.ListN.{length}
 use Rattle.meaning.specs.declared.Task.{Task}
 use Rattle.meaning.specs.Numbers.{textLimit}
@@ -21,26 +20,24 @@ use Rattle.layout.specs.Passes.{laid-good}
 use Rattle.layout.specs.Same.{same-runs}
 use Rattle.words.specs.declared.Place.the-variants.{Nowhere}
 use Rattle.words.specs.Words.{firstNotAllowed}
-use Rattle.reader.specs.Reading.{got, bad, reading}
+use Rattle.reader.specs.Reading.{got, reading}
+use Rattle.reader.specs.PartLaws.{bad-got}
 use Rattle.accepted.specs.Kept.{JobRead, Kept, Anywhere}
 use Rattle.accepted.specs.Walk.{job-kept, reading-ways}
-
-no-job : {j : Job} {n place at rows : ℕ} → bad n place ≡ got j at rows → ⊥
-no-job e = let z : _≡_ {A = ℕ} 0 1 = cc in omega arith
 
 pub reading-proper : (s : List ℕ) (j : Job) (at rows : ℕ) → reading s ≡ got j at rows → Proper j × (rows ≡ length (rowsT (j .tasks) 0))
 reading-proper s j at rows =
     reading-ways s (λ p. p ≡ got j at rows → Proper j × (rows ≡ length (rowsT (j .tasks) 0)))
-    (λ _ e. absurd (no-job e))
-    (λ _ _ _ e. absurd (no-job e))
+    (λ _ e. absurd (bad-got e))
+    (λ _ _ _ e. absurd (bad-got e))
     (λ _ _ e. let k = subst (Kept s Anywhere JobRead) e (job-kept s Anywhere (λ _. tt) tt) .1 in (k .proper, k .rows))
 
 -- The text itself: not too long, and with no byte that is not allowed.
 pub reading-plain : (s : List ℕ) (j : Job) (at rows : ℕ) → reading s ≡ got j at rows → (length s ≤ textLimit) × (firstNotAllowed s ≡ Nowhere)
 reading-plain s j at rows =
     reading-ways s (λ p. p ≡ got j at rows → (length s ≤ textLimit) × (firstNotAllowed s ≡ Nowhere))
-    (λ _ e. absurd (no-job e))
-    (λ _ _ _ e. absurd (no-job e))
+    (λ _ e. absurd (bad-got e))
+    (λ _ _ _ e. absurd (bad-got e))
     (λ l q _. (l, q))
 
 module _ (s : List ℕ) (j : Job) (at rows : ℕ) (e : reading s ≡ got j at rows) where

@@ -8,11 +8,11 @@ use lib.ListN.{length}
 use Rattle.meaning.specs.declared.Op.{Op}
 use Rattle.meaning.specs.Numbers.{channelLimit, taskLimit, caseLimit, valueLimit, lapLimit, depthLimit, rowLimit}
 use Rattle.meaning.specs.Text.{Stmt, range, repeat, ifok, select, Body, empty, Cases, nomore}
+use Rattle.meaning.specs.Tests.{cond-all}
 use Rattle.words.specs.declared.Word.{Word}
 use Rattle.words.specs.Words.{noKind, sendKind, forwardKind, recvKind, closeKind, rangeKind, repeatKind, ifokKind, elseKind, selectKind, defaultKind, stopKind, endKind, nilKind, numberKind, wordAt}
 use Rattle.reader.specs.Reading.{Part, got, none, bad, bind, misplaced, numberBy, number, closedBy, closed, portBy, port, opBy, withRow, asBlock, secondBy, caseBy, lastBy, casesBy, casesFrom, stmtBy, bodyBy, bodyFrom, chanBy, chansBy, chansFrom, taskBy, tasksBy, tasksFrom, jobOf, job, reading}
 use Rattle.reader.specs.Answers.{isOp, isStatement}
-use Rattle.reader.specs.PartLaws.{cond-all}
 use Rattle.accepted.specs.Walk.{reading-ways}
 
 abbrev pub Sure : {A : Type 0} → Part A → Type 0

@@ -11,7 +11,7 @@ use lib.Seq.{getD-drop}
 use Rattle.meaning.specs.Numbers.{textLimit, textTooLong, byteNotAllowed, wordOutOfPlace, rowsFull, cutShort, noTask}
 use Rattle.words.specs.declared.Place.the-variants.{Nowhere, At}
 use Rattle.words.specs.Words.{noKind, isBlank, isAllowed, inWord, run, startAt, nextAt, bytesAt, wordAt, firstNotAllowed}
-use Rattle.words.specs.WordsLaws.{run-stop, run-passes, run-stops, word-place, first-bad}
+use Rattle.words.specs.WordsLaws.{run-stop, run-passes, run-stops, start-no-blank, word-place, first-bad}
 use Rattle.reader.specs.Reading.{bad, reading}
 use Rattle.accepted.specs.Kept.{JobRead, names, Names, Refusal, Kept}
 use Rattle.accepted.specs.Walk.{job-kept, reading-ways}
@@ -43,16 +43,10 @@ module _ (s : List ℕ) where
     pub named : names n (wordAt s place .kind) ≡ true
 
   module _ (at : ℕ) (h : startAt s at < length s) where
-    plain-start : isBlank (getD s (startAt s at) 0) ≡ false
-    unfolding startAt
-    plain-start =
-        let l : run isBlank (drop at s) < length (drop at s) = omega (arith, length-drop at s) in
-        rw (← getD-drop at s (run isBlank (drop at s)) 0) (run-stops isBlank (drop at s) 0 l)
-
     -- A word read from its first byte is the word.
     start-start : startAt s (startAt s at) ≡ startAt s at
     unfolding startAt
-    start-start = sym (run-stop isBlank s (startAt s at) 0 h plain-start)
+    start-start = sym (run-stop isBlank s (startAt s at) 0 h (start-no-blank s at h))
 
     word-start : wordAt s (startAt s at) ≡ wordAt s at
     unfolding wordAt nextAt bytesAt
@@ -65,7 +59,7 @@ module _ (s : List ℕ) where
         go : (m : ℕ) → run isBlank (drop at s) ≡ m → 0 < at + m → isBlank (getD s (at + m - 1) 0) ≡ true
         go zero e l =
             let z : startAt s at ≡ at = omega arith in
-            absurd (true≢false (sym (edge (omega arith) (omega arith)) ∙ ap (λ i. isBlank (getD s i 0)) (sym z) ∙ plain-start))
+            absurd (true≢false (sym (edge (omega arith) (omega arith)) ∙ ap (λ i. isBlank (getD s i 0)) (sym z) ∙ start-no-blank s at h))
         go (suc m) e l =
             let z : at + suc m - 1 ≡ at + m = omega arith in
             rw (z, ← getD-drop at s m 0) (run-passes isBlank (drop at s) m 0 (omega arith))
@@ -78,7 +72,7 @@ module _ (s : List ℕ) where
       let h : startAt s at < length s = omega (arith, w .1, w .2) in
       subst (WordRefused n) (sym (q .first)) (record {
         inside = h;
-        plain = plain-start at h;
+        plain = start-no-blank s at h;
         first = first-start at h (q .edge);
         begins = start-start at h;
         named = ap (λ w. names n (w .kind)) (word-start at h) ∙ q .named;

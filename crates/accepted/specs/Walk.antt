@@ -13,6 +13,7 @@ use Rattle.meaning.specs.declared.Op.{Op}
 use Rattle.meaning.specs.Numbers.{textLimit, channelLimit, capacityLimit, taskLimit, caseLimit, valueLimit, lapLimit, depthLimit, rowLimit, textTooLong, byteNotAllowed, wordOutOfPlace, numberDue, numberOverRange, oneTooMany, tooDeep, rowsFull, cutShort, noTask}
 use Rattle.meaning.specs.Text.{Stmt, range, repeat, ifok, select, Body, empty, Cases, nomore, Job}
 use Rattle.meaning.specs.Layout.{caseCount, sizeS, sizeB, sizeC, rowsT}
+use Rattle.meaning.specs.Tests.{cond-all}
 use Rattle.layout.specs.Proper.{Proper}
 use Rattle.layout.specs.Laid.{sizeT, rowsT-size, positive}
 use Rattle.words.specs.declared.Place.{Place}
@@ -20,10 +21,6 @@ use Rattle.words.specs.declared.Place.the-variants.{Nowhere, At}
 use Rattle.words.specs.Words.{noKind, chanKind, taskKind, sendKind, forwardKind, recvKind, closeKind, rangeKind, repeatKind, ifokKind, elseKind, selectKind, caseKind, defaultKind, stopKind, endKind, nilKind, numberKind, wordAt, firstNotAllowed}
 use Rattle.reader.specs.Reading.{Part, got, none, bad, bind, misplaced, numberBy, number, closedBy, closed, portBy, port, opBy, withRow, asBlock, secondBy, orMisplaced, caseOp, caseBy, lastBy, casesBy, casesFrom, isOpWord, stmtBy, bodyBy, bodyFrom, body, chanBy, chansBy, chansFrom, taskEnd, taskBy, tasksBy, tasksFrom, jobOf, job, allowedBy, reading}
 use Rattle.accepted.specs.Kept.{StmtRead, BodyRead, CaseRead, CasesRead, TaskRead, TasksRead, ChanRead, ChansRead, JobRead, NumberRead, PortRead, OpRead, names, Refusal, Kept}
-
-cond-all : {A : Type 0} (P : A → Type 0) (b : Bool) (x y : A) → (b ≡ true → P x) → (b ≡ false → P y) → P (cond b x y)
-cond-all P true x y f g = f refl
-cond-all P false x y f g = g refl
 
 module _ (s : List ℕ) (Edge : ℕ → Type 0) (behind : (at : ℕ) → Edge (wordAt s at .next)) where
   bind-kept : {A B : Type 0} (P : A → ℕ → Type 0) (Q : B → ℕ → Type 0) (p : Part A) (f : A → ℕ → ℕ → Part B) → Kept s Edge P p → ((x : A) (at r : ℕ) → Edge at → P x r → Kept s Edge Q (f x at r)) → Kept s Edge Q (bind p f)
@@ -46,7 +43,7 @@ module _ (s : List ℕ) (Edge : ℕ → Type 0) (behind : (at : ℕ) → Edge (w
 
   misplaced-kept : {A : Type 0} (P : A → ℕ → Type 0) (at : ℕ) → Edge at → Kept s Edge P (misplaced s (wordAt s at))
   misplaced-kept P at i =
-      cond-all (Kept s Edge P) (eqb (wordAt s at .kind) noKind) _ _
+      cond-all (Kept s Edge P) (eqb (wordAt s at .kind) noKind)
       (λ _. end-refused cutShort (omega arith) (omega arith))
       (λ e. word-refused wordOutOfPlace at i (omega arith) (omega arith) (rw e))
 
@@ -54,30 +51,30 @@ module _ (s : List ℕ) (Edge : ℕ → Type 0) (behind : (at : ℕ) → Edge (w
   unfolding numberBy
   number-kept limit at rows i =
       let P = Kept s Edge (NumberRead rows limit) in
-      cond-all P (eqb (wordAt s at .kind) noKind) _ _
+      cond-all P (eqb (wordAt s at .kind) noKind)
       (λ _. end-refused cutShort (omega arith) (omega arith))
-      (λ e. cond-all P (eqb (wordAt s at .kind) numberKind) _ _
-      (λ f. cond-all P (leb (wordAt s at .value) limit) _ _
+      (λ e. cond-all P (eqb (wordAt s at .kind) numberKind)
+      (λ f. cond-all P (leb (wordAt s at .value) limit)
       (λ t. (behind at, record { within = leb-true _ _ t; same = refl }))
       (λ _. word-refused numberOverRange at i (omega arith) (omega arith) (is-named numberOverRange at numberKind refl f)))
       (λ f. word-refused numberDue at i (omega arith) (omega arith) (rw (e, f))))
 
   closed-kept : {A : Type 0} (P : A → ℕ → Type 0) (x : A) (at rows : ℕ) → Edge at → P x rows → Kept s Edge P (closed s x at rows)
   unfolding closedBy
-  closed-kept P x at rows i h = cond-all (Kept s Edge P) (eqb (wordAt s at .kind) endKind) _ _ (λ _. (behind at, h)) (λ _. misplaced-kept P at i)
+  closed-kept P x at rows i h = cond-all (Kept s Edge P) (eqb (wordAt s at .kind) endKind) (λ _. (behind at, h)) (λ _. misplaced-kept P at i)
 
   -- LIMITS
 
   row-kept : {A : Type 0} (P : A → ℕ → Type 0) (at rows : ℕ) (f : ℕ → Part A) → Edge at → names rowsFull (wordAt s at .kind) ≡ true → (rows < rowLimit → Kept s Edge P (f (rows + 1))) → Kept s Edge P (withRow (wordAt s at) f rows)
   row-kept {A} P at rows f i k h =
-      cond-all (λ (g : ℕ → Part A). Kept s Edge P (g (rows + 1))) (ltb rows rowLimit) _ _
+      cond-all (λ (g : ℕ → Part A). Kept s Edge P (g (rows + 1))) (ltb rows rowLimit)
       (λ t. h (ltb-true _ _ t))
       (λ _. word-refused rowsFull at i (omega arith) (omega arith) k)
 
   block-kept : {A : Type 0} (P : A → ℕ → Type 0) (depth at rows : ℕ) (f : ℕ → Part A) → Edge at → names tooDeep (wordAt s at .kind) ≡ true → names rowsFull (wordAt s at .kind) ≡ true
       → (depth < depthLimit → rows < rowLimit → Kept s Edge P (f (rows + 1))) → Kept s Edge P (asBlock depth (wordAt s at) f rows)
   block-kept {A} P depth at rows f i k m h =
-      cond-all (λ (g : ℕ → Part A). Kept s Edge P (g rows)) (ltb depth depthLimit) _ _
+      cond-all (λ (g : ℕ → Part A). Kept s Edge P (g rows)) (ltb depth depthLimit)
       (λ t. row-kept P at rows f i m (h (ltb-true _ _ t)))
       (λ _. word-refused tooDeep at i (omega arith) (omega arith) k)
 
@@ -88,12 +85,12 @@ module _ (s : List ℕ) (Edge : ℕ → Type 0) (behind : (at : ℕ) → Edge (w
     unfolding portBy
     port-kept at rows i =
         let P = Kept s Edge (PortRead rows channels) in
-        cond-all P (eqb (wordAt s at .kind) noKind) _ _
+        cond-all P (eqb (wordAt s at .kind) noKind)
         (λ _. end-refused cutShort (omega arith) (omega arith))
-        (λ e. cond-all P (eqb (wordAt s at .kind) nilKind) _ _
+        (λ e. cond-all P (eqb (wordAt s at .kind) nilKind)
         (λ _. (behind at, record { sound = tt; same = refl }))
-        (λ _. cond-all P (eqb (wordAt s at .kind) numberKind) _ _
-        (λ f. cond-all P (ltb (wordAt s at .value) channels) _ _
+        (λ _. cond-all P (eqb (wordAt s at .kind) numberKind)
+        (λ f. cond-all P (ltb (wordAt s at .value) channels)
         (λ t. (behind at, record { sound = ltb-true _ _ t; same = refl }))
         (λ _. word-refused numberOverRange at i (omega arith) (omega arith) (is-named numberOverRange at numberKind refl f)))
         (λ f. word-refused numberDue at i (omega arith) (omega arith) (rw (e, f)))))
@@ -105,13 +102,13 @@ module _ (s : List ℕ) (Edge : ℕ → Type 0) (behind : (at : ℕ) → Edge (w
         let C = PortRead rows channels in
         let next = wordAt s at .next in
         let due = port-kept next rows (behind at) in
-        cond-all (Kept s Edge O) (eqb (wordAt s at .kind) sendKind) _ _
+        cond-all (Kept s Edge O) (eqb (wordAt s at .kind) sendKind)
         (λ _. bind-kept C O (port s channels next rows) _ due
         (λ p a r i q. bind-kept (NumberRead r valueLimit) O (number s valueLimit a r) _ (number-kept valueLimit a r i)
         (λ v b t k n. (k, record { proper = (q .sound, n .within); same = omega (arith, q .same, n .same) }))))
-        (λ _. cond-all (Kept s Edge O) (eqb (wordAt s at .kind) forwardKind) _ _
+        (λ _. cond-all (Kept s Edge O) (eqb (wordAt s at .kind) forwardKind)
         (λ _. bind-kept C O (port s channels next rows) _ due (λ p a r i q. (i, record { proper = q .sound; same = q .same })))
-        (λ _. cond-all (Kept s Edge O) (eqb (wordAt s at .kind) recvKind) _ _
+        (λ _. cond-all (Kept s Edge O) (eqb (wordAt s at .kind) recvKind)
         (λ _. bind-kept C O (port s channels next rows) _ due (λ p a r i q. (i, record { proper = q .sound; same = q .same })))
         (λ _. tt)))
 
@@ -123,7 +120,7 @@ module _ (s : List ℕ) (Edge : ℕ → Type 0) (behind : (at : ℕ) → Edge (w
     second-kept b at r i l q =
         let P = StmtRead channels depth rows in
         let next = wordAt s at .next in
-        cond-all (λ (g : ℕ → Part Stmt). Kept s Edge P (g r)) (eqb (wordAt s at .kind) elseKind) _ _
+        cond-all (λ (g : ℕ → Part Stmt). Kept s Edge P (g r)) (eqb (wordAt s at .kind) elseKind)
         (λ _. bind-kept (BodyRead channels (suc depth) r) P (sub next r) _ (good next r (behind at) (omega (arith, q .sized)) (q .room))
         (λ c a t k z. closed-kept P (ifok b c) a t k (record { proper = (l, q .proper, z .proper); sized = omega (arith, q .sized, z .sized); room = z .room })))
         (λ _. closed-kept P (ifok b empty) at r i (record { proper = (l, q .proper, tt); sized = omega (arith, q .sized); room = q .room }))
@@ -142,8 +139,8 @@ module _ (s : List ℕ) (Edge : ℕ → Type 0) (behind : (at : ℕ) → Edge (w
     case-kept left at r i l =
         let P = CaseRead channels (suc depth) r left in
         let next = wordAt s at .next in
-        cond-all (λ (g : ℕ → Part (Op × Body)). Kept s Edge P (g r)) (eqb (wordAt s at .kind) caseKind) _ _
-        (λ e. cond-all (λ (g : ℕ → Part (Op × Body)). Kept s Edge P (g r)) (eqb left 0) _ _
+        cond-all (λ (g : ℕ → Part (Op × Body)). Kept s Edge P (g r)) (eqb (wordAt s at .kind) caseKind)
+        (λ e. cond-all (λ (g : ℕ → Part (Op × Body)). Kept s Edge P (g r)) (eqb left 0)
         (λ _. word-refused oneTooMany at i (omega arith) (omega arith) (is-named oneTooMany at caseKind refl e))
         (λ f. row-kept P at r _ i (is-named rowsFull at caseKind refl e)
         (λ h. bind-kept (OpRead (r + 1) channels) P (caseOp s channels sub (wordAt s next) (r + 1)) _ (case-op-kept next (r + 1) (behind at))
@@ -156,7 +153,7 @@ module _ (s : List ℕ) (Edge : ℕ → Type 0) (behind : (at : ℕ) → Edge (w
     last-kept bound at r i n l m =
         let P = CasesRead channels (suc depth) r bound in
         let next = wordAt s at .next in
-        cond-all (λ (g : ℕ → Part Cases). Kept s Edge P (g r)) (eqb (wordAt s at .kind) defaultKind) _ _
+        cond-all (λ (g : ℕ → Part Cases). Kept s Edge P (g r)) (eqb (wordAt s at .kind) defaultKind)
         (λ _. bind-kept (BodyRead channels (suc depth) r) P (sub next r) _ (good next r (behind at) l m)
         (λ b a t k z. (k, record { fewer = n; proper = z .proper; sized = omega (arith, z .sized); room = z .room })))
         (λ _. (i, record { fewer = n; proper = tt; sized = omega arith; room = m }))
@@ -178,9 +175,9 @@ module _ (s : List ℕ) (Edge : ℕ → Type 0) (behind : (at : ℕ) → Edge (w
 
     op-word : (at : ℕ) → isOpWord s channels sub (wordAt s at) ≡ true → names rowsFull (wordAt s at .kind) ≡ true
     op-word at =
-        cond-all (λ (b : Bool). b ≡ true → names rowsFull (wordAt s at .kind) ≡ true) (eqb (wordAt s at .kind) sendKind) _ _
+        cond-all (λ (b : Bool). b ≡ true → names rowsFull (wordAt s at .kind) ≡ true) (eqb (wordAt s at .kind) sendKind)
         (λ e _. is-named rowsFull at sendKind refl e)
-        (λ _. cond-all (λ (b : Bool). b ≡ true → names rowsFull (wordAt s at .kind) ≡ true) (eqb (wordAt s at .kind) forwardKind) _ _
+        (λ _. cond-all (λ (b : Bool). b ≡ true → names rowsFull (wordAt s at .kind) ≡ true) (eqb (wordAt s at .kind) forwardKind)
         (λ e _. is-named rowsFull at forwardKind refl e)
         (λ _ e. is-named rowsFull at recvKind refl e))
 
@@ -222,7 +219,7 @@ module _ (s : List ℕ) (Edge : ℕ → Type 0) (behind : (at : ℕ) → Edge (w
         (λ _. tt)))))))
       where
         way : (b : Bool) (f g : ℕ → Part Stmt) → (b ≡ true → Kept s Edge (StmtRead channels depth rows) (f rows)) → (b ≡ false → Kept s Edge (StmtRead channels depth rows) (g rows)) → Kept s Edge (StmtRead channels depth rows) (cond b f g rows)
-        way = cond-all (λ (g : ℕ → Part Stmt). Kept s Edge (StmtRead channels depth rows) (g rows))
+        way b f g = cond-all (λ (p : ℕ → Part Stmt). Kept s Edge (StmtRead channels depth rows) (p rows)) b
 
   -- BODIES, with one step more than rows are left
 
@@ -258,8 +255,8 @@ module _ (s : List ℕ) (Edge : ℕ → Type 0) (behind : (at : ℕ) → Edge (w
   unfolding chanBy
   chan-kept left at rows i l =
       let next = wordAt s at .next in
-      cond-all (λ (g : ℕ → Part ℕ). Kept s Edge (ChanRead left) (g rows)) (eqb (wordAt s at .kind) chanKind) _ _
-      (λ e. cond-all (λ (g : ℕ → Part ℕ). Kept s Edge (ChanRead left) (g rows)) (eqb left 0) _ _
+      cond-all (λ (g : ℕ → Part ℕ). Kept s Edge (ChanRead left) (g rows)) (eqb (wordAt s at .kind) chanKind)
+      (λ e. cond-all (λ (g : ℕ → Part ℕ). Kept s Edge (ChanRead left) (g rows)) (eqb left 0)
       (λ _. word-refused oneTooMany at i (omega arith) (omega arith) (is-named oneTooMany at chanKind refl e))
       (λ f. keep (number s capacityLimit next rows) (omega (arith, eqb-false left 0 f)) (number-kept capacityLimit next rows (behind at))))
       (λ _. tt)
@@ -287,7 +284,7 @@ module _ (s : List ℕ) (Edge : ℕ → Type 0) (behind : (at : ℕ) → Edge (w
     unfolding taskEnd
     task-end-kept left at rows r b i l q =
         let P = TaskRead channels rows left in
-        cond-all (λ (g : ℕ → Part Body). Kept s Edge P (g r)) (eqb (wordAt s at .kind) endKind) _ _
+        cond-all (λ (g : ℕ → Part Body). Kept s Edge P (g r)) (eqb (wordAt s at .kind) endKind)
         (λ e. row-kept P at r _ i (is-named rowsFull at endKind refl e) (λ h. (behind at, record { some = l; proper = q .proper; sized = omega (arith, q .sized); room = omega arith })))
         (λ _. misplaced-kept P at i)
 
@@ -296,12 +293,12 @@ module _ (s : List ℕ) (Edge : ℕ → Type 0) (behind : (at : ℕ) → Edge (w
     task-kept left at rows i l =
         let P = TaskRead channels rows left in
         let next = wordAt s at .next in
-        cond-all (λ (g : ℕ → Part Body). Kept s Edge P (g rows)) (eqb (wordAt s at .kind) taskKind) _ _
-        (λ e. cond-all (λ (g : ℕ → Part Body). Kept s Edge P (g rows)) (eqb left 0) _ _
+        cond-all (λ (g : ℕ → Part Body). Kept s Edge P (g rows)) (eqb (wordAt s at .kind) taskKind)
+        (λ e. cond-all (λ (g : ℕ → Part Body). Kept s Edge P (g rows)) (eqb left 0)
         (λ _. word-refused oneTooMany at i (omega arith) (omega arith) (is-named oneTooMany at taskKind refl e))
         (λ f. bind-kept (BodyRead channels 0 rows) P (body s channels next rows) _ (body-kept (suc rowLimit) channels 0 next rows (behind at) l (omega arith))
         (λ b a r k q. task-end-kept left a rows r b k (omega (arith, eqb-false left 0 f)) q)))
-        (λ _. cond-all (Kept s Edge P) (eqb (wordAt s at .kind) noKind) _ _
+        (λ _. cond-all (Kept s Edge P) (eqb (wordAt s at .kind) noKind)
         (λ _. tt)
         (λ e. word-refused wordOutOfPlace at i (omega arith) (omega arith) (rw e)))
 
@@ -347,7 +344,7 @@ module _ (s : List ℕ) where
       → (length s ≤ textLimit → firstNotAllowed s ≡ Nowhere → P (job s)) → P (reading s)
   unfolding reading
   reading-ways P a b c =
-      cond-all (λ (g : ℕ → Part Job). P (g 0)) (ltb textLimit (length s)) _ _
+      cond-all (λ (g : ℕ → Part Job). P (g 0)) (ltb textLimit (length s))
       (λ t. a (ltb-true _ _ t))
       (λ t. go (firstNotAllowed s) refl (ltb-false _ _ t))
     where
