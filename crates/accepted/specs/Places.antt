@@ -140,10 +140,6 @@ module _ (s : List ℕ) (n place : ℕ) (e : reading s ≡ bad n place) where
   pub refused-byte : n ≡ byteNotAllowed → (place < length s) × (isAllowed (getD s place 0) ≡ false) × ((i : ℕ) → i < place → isAllowed (getD s i 0) ≡ true)
   refused-byte h = first-bad s place (told .byte h)
 
-  -- 3 to 8: a word stands there.
-  pub refused-word : wordOutOfPlace ≤ n → n ≤ rowsFull → (at : ℕ) × (place ≡ wordAt s at .start) × (wordAt s at .kind ≡ noKind → ⊥)
-  refused-word l m = let w = told .word l m in (place, sym (w .begins), names-some n (wordAt s place .kind) (w .named))
-
   -- No place is behind the text.
   pub refused-within : place ≤ length s
   refused-within = go (leb cutShort n) refl (leb wordOutOfPlace n) refl (eqb n byteNotAllowed) refl

@@ -7,13 +7,13 @@ use native.Mathlib.Omega.{arith}
 use borrow.Author.Tests.{ltb-true}
 use lib.Dec.{eqb, ltb}
 use Rattle.meaning.specs.declared.Op.{Op}
-use Rattle.meaning.specs.Numbers.{caseLimit, lapLimit, depthLimit, rowLimit, wordOutOfPlace, noTask}
+use Rattle.meaning.specs.Numbers.{caseLimit, lapLimit, depthLimit, rowLimit}
 use Rattle.meaning.specs.Text.{Stmt, Body, Cases, nomore}
 use Rattle.layout.specs.Laid.{positive}
 use Rattle.words.specs.declared.Word.{Word}
 use Rattle.words.specs.Words.{elseKind, caseKind, defaultKind, closeKind, stopKind, rangeKind, repeatKind, ifokKind, selectKind, wordAt}
 use Rattle.reader.specs.Reading.{Part, got, none, bad, bind, number, port, withRow, asBlock, secondBy, caseOp, caseBy, lastBy, casesBy, casesFrom, isOpWord, stmtBy, bodyBy, bodyFrom, reading}
-use Rattle.accepted.specs.Kept.{NumberRead, PortRead, OpRead, StmtRead, BodyRead, CaseRead, Refusal, Kept, Anywhere}
+use Rattle.accepted.specs.Kept.{NumberRead, PortRead, OpRead, StmtRead, BodyRead, CaseRead, Kept, Anywhere}
 use Rattle.accepted.specs.Walk.{number-kept, port-kept, case-op-kept, case-kept, body-kept, deeper-kept, statement-kept}
 use Rattle.accepted.specs.Places.{reading-refused}
 
@@ -131,12 +131,6 @@ module _ (s : List ℕ) where
 
     pub statement-read : (x : Stmt) (a r : ℕ) → rowLimit - rows < suc k → stmtBy s channels (bodyFrom k s channels (depth + 1)) depth (wordAt s at) rows ≡ got x a r → StmtRead channels depth rows x r
     statement-read x a r h e = subst (Kept s Anywhere (StmtRead channels depth rows)) e (statement-kept s Anywhere (λ _. tt) k channels depth at rows tt h) .1
-
-    -- Steps never run out: a refusal has a number of the table, and never the 0 of a reader that has none left.
-    pub steps-number : (n place : ℕ) → rows ≤ rowLimit → rowLimit - rows < k → bodyFrom k s channels depth at rows ≡ bad n place → (wordOutOfPlace ≤ n) × (n ≤ noTask)
-    steps-number n place l h e =
-        let r : Refusal s Anywhere n place = subst (Kept s Anywhere (BodyRead channels depth rows)) e (body-kept s Anywhere (λ _. tt) k channels depth at rows tt l h) in
-        (r .least, r .most)
 
   pub reading-number : (n place : ℕ) → reading s ≡ bad n place → (1 ≤ n) × (n ≤ 10)
   reading-number n place e = let r = reading-refused s n place e in (r .least, r .most)
