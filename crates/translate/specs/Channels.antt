@@ -12,11 +12,11 @@ use Rattle.words.specs.Words.{chanKind, wordAt}
 use Rattle.reader.specs.declared.NumberRead.{NumberRead}
 use Rattle.reader.specs.Reading.{Part, got, none, bad, number, chanBy, chansBy, chansFrom}
 use Rattle.reader.specs.Answers.{numberPart, NumberTold}
-use Rattle.reader.specs.PartLaws.{All}
+use Rattle.reader.specs.PartLaws.{none-got, bad-got, same-got, bind-got, All}
 use Rattle.reader.specs.HeadLaws.{Kept, number-kept}
 use Rattle.accepted.specs.Kept as kept
 use Rattle.accepted.specs.Walk as walk
-use Rattle.lay.specs.Turns.{none-got, bad-got, same-got, bind-got, way-first, way-second}
+use Rattle.lay.specs.Turns.{way-first, way-second}
 
 -- The first of several channels, whose first word is w, and the rest.
 pub record ChanTurn (s : List ℕ) (left : ℕ) (w : Word) (ns : List ℕ) (a r : ℕ) : Type 0 where

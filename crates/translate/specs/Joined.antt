@@ -1,18 +1,15 @@
 -- The four parts of an image, stored one behind the other, are the image. Assumes nothing.
 use mathlib.Core.Path.{_≡_, refl, sym, ap, _∙_}
 use mathlib.Core.List.{List, [], _∷_, _++_}
-use Prim.Native.Nat.{ℕ, zero, suc, _+_, _*_, _≤_}
+use Prim.Native.Nat.{ℕ, suc, _+_, _*_, _≤_}
 use native.Mathlib.Omega.{arith}
-use native.Mathlib.Nat.{add-zero}
 use borrow.Author.Tests.{le-leb}
 use lib.ListN.{length, set, drop, length-append}
 use lib.Seq.{sets, sets-eq, length-sets}
-use Rattle.meaning.specs.declared.Row.{Row}
 use Rattle.meaning.specs.declared.Statement.{Statement}
-use Rattle.meaning.specs.Text.{Body, Job}
-use Rattle.meaning.specs.Image.{rowNo}
+use Rattle.meaning.specs.Text.{Job}
 use Rattle.meaning.specs.Layout.{rowsT, firstRows}
-use Rattle.meaning.specs.Bytes.{rowSize, trailerSize, fieldsOf, bytesOf, rowBytes, firstBytes, trailer, imageBytes, jobImage}
+use Rattle.meaning.specs.Bytes.{rowSize, fieldsOf, bytesOf, rowBytes, firstBytes, trailer, imageBytes, jobImage}
 use Rattle.rows.specs.Rows.{rowPut}
 use Rattle.layout.specs.Laid.{firstRows-length}
 use Rattle.layout.specs.ReadBack.{rowBytes-length, firstBytes-length, image-length}

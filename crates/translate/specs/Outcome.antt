@@ -1,6 +1,5 @@
 -- What a translation answers and leaves in the buffer, by what pass 1 answers. Assumes nothing.
-use mathlib.Core.Path.{_≡_, refl, sym, ap, subst, _∙_}
-use mathlib.Core.Bool.{cond}
+use mathlib.Core.Path.{_≡_, refl, sym, _∙_}
 use mathlib.Core.List.{List}
 use Prim.Native.Nat.{ℕ, _+_, _≤_, _<_}
 use native.Mathlib.Omega.{arith}
@@ -15,8 +14,7 @@ use Rattle.reader.specs.Reading.{Part, got, none, bad, job, reading}
 use Rattle.reader.specs.Answers.{toldJob}
 use Rattle.accepted.specs.Accepted.{reading-proper, accepted-length}
 use Rattle.accepted.specs.Walk.{reading-ways}
-use Rattle.lay.specs.Turns.{bad-got}
-use Rattle.translate.specs.declared.Translated.{Translated}
+use Rattle.reader.specs.PartLaws.{bad-got}
 use Rattle.translate.specs.declared.Translated.the-variants.{Image, Refused}
 use Rattle.translate.specs.Translated.{translatedTo, translated, writtenTo, written}
 use Rattle.translate.specs.Joined.{stored-at-start}

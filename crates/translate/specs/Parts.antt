@@ -1,18 +1,17 @@
 -- The parts of a job that the definitions read, by what pass 1 answers. Assumes nothing.
 use mathlib.Core.Path.{_≡_, refl, sym, ap, subst, _∙_}
 use mathlib.Core.List.{List, [], _∷_}
-use Prim.Native.Nat.{ℕ, suc, _+_, _≤_}
-use native.Mathlib.Omega.{arith}
+use Prim.Native.Nat.{ℕ, suc, _+_}
 use lib.ListN.{length}
 use Rattle.meaning.specs.Numbers.{channelLimit, taskLimit}
 use Rattle.meaning.specs.Text.{Body, Job}
 use Rattle.meaning.specs.Layout.{rowsT}
 use Rattle.reader.specs.declared.Counted.{Counted}
-use Rattle.reader.specs.Reading.{Part, got, none, bad, bind, chansFrom, tasksFrom, jobOf, job}
+use Rattle.reader.specs.Reading.{got, bind, chansFrom, tasksFrom, jobOf, job}
 use Rattle.reader.specs.Answers.{counted, ChansTold}
 use Rattle.accepted.specs.Kept.{Kept, Anywhere, ChansRead, JobRead}
 use Rattle.accepted.specs.Walk.{chans-kept, job-kept}
-use Rattle.lay.specs.Turns.{bad-got, same-got, bind-got}
+use Rattle.reader.specs.PartLaws.{bad-got, same-got, bind-got}
 
 -- The channels from the text's first byte on, and the tasks behind them, which no row stands ahead of.
 pub record Parts (s : List ℕ) (j : Job) (a rows : ℕ) : Type 0 where

@@ -3,10 +3,6 @@ use Rattle.translate.specs.Outcome.{is-job, refused-as, words-read, in-l
 use borrow.Author.Needs.{needs}
 use Rattle.translate.proofs.translate.Statement.{statement}
 use Rattle.translate.proofs.translate.Tie as tie
-use Rattle.translate.proofs.translate.Reads as reads
-use Rattle.translate.proofs.translate.Lts as lts
-use Rattle.reader.proofs.jobs.read.Reads as read-reads
-use Rattle.translate.proofs.writing.lay_image.Reads as lay-image-reads
 
 -- src/lib.rt:23:11
 read-requires : tie.Need-read-requires

@@ -12,11 +12,6 @@ use Rattle.translate.specs.Channels.{chan-turn, turn-capacities, nothing
 use Rattle.translate.proofs.Stops.{not-number}
 use Rattle.translate.proofs.writing.lay_capacities.Statement.{statement}
 use Rattle.translate.proofs.writing.lay_capacities.Tie as tie
-use Rattle.translate.proofs.writing.lay_capacities.Reads as reads
-use Rattle.translate.proofs.writing.lay_capacities.Lts as lts
-use Rattle.lay.proofs.bytes.put_byte.Reads as put-byte-reads
-use Rattle.reader.proofs.heads.read_number.Reads as read-number-reads
-use Rattle.words.proofs.word_at.Reads as word-at-reads
 
 abbrev Inv-loop : tie.InvT-loop
 Inv-loop text channels base out₀ at₀ n₀ out at n =

@@ -1,17 +1,9 @@
-use mathlib.Core.Path.{_≡_}
 use Rattle.lay.proofs.Stops.{not-counted}
 use Rattle.translate.specs.Parts.{job-parts, tasks-from, tasks-place, chans-there}
 use Rattle.translate.specs.Joined.{joined}
 use borrow.Author.Needs.{needs}
 use Rattle.translate.proofs.writing.lay_image.Statement.{statement}
 use Rattle.translate.proofs.writing.lay_image.Tie as tie
-use Rattle.translate.proofs.writing.lay_image.Reads as reads
-use Rattle.translate.proofs.writing.lay_image.Lts as lts
-use Rattle.lay.proofs.bytes.put_trailer.Reads as put-trailer-reads
-use Rattle.lay.proofs.jobs.lay_firsts.Reads as lay-firsts-reads
-use Rattle.lay.proofs.jobs.lay_tasks.Reads as lay-tasks-reads
-use Rattle.reader.proofs.jobs.read_chans.Reads as read-chans-reads
-use Rattle.translate.proofs.writing.lay_capacities.Reads as lay-capacities-reads
 
 -- src/writing.rt:40:9
 read-chans-requires : tie.Need-read-chans-requires
