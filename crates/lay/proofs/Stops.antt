@@ -1,4 +1,4 @@
--- An answer that is not `Done` or `Got`, by its tag.
+-- An answer that is not `Got`, or counts nothing, by its tag.
 use mathlib.Core.Path.{_≡_}
 use mathlib.Core.List.{[], _∷_}
 use Prim.Native.Nat.{ℕ}
@@ -6,18 +6,10 @@ use native.Mathlib.Omega.{arith}
 use types.Run.{OneOf, miss}
 use denote.Enum.Declared.{tagOf}
 use Rattle.meaning.specs.declared.Op.{Op}
-use Rattle.reader.specs.declared.Read.{Read}
 use Rattle.reader.specs.declared.OpRead.{OpRead}
 use Rattle.reader.specs.declared.Counted.{Counted}
-use Rattle.reader.specs.PartLaws.{Stops}
-use Rattle.reader.proofs.Read.{the-type as read-type}
 use Rattle.reader.proofs.OpRead.{the-type as op-type}
 use Rattle.reader.proofs.Counted.{the-type as counted-type}
-
-pub stops : (v : Read) → OneOf (1 ∷ 2 ∷ []) (tagOf read-type v) → Stops v
-stops (Read.Done at rows) h = miss (1 ∷ 2 ∷ []) 0 tt h
-stops Read.Nothing h = tt
-stops (Read.Refused n place) h = tt
 
 pub not-got : (o : OpRead) → OneOf (1 ∷ 2 ∷ []) (tagOf op-type o) → (op : Op) (next : ℕ) → o ≡ OpRead.Got op next → ⊥
 not-got (OpRead.Got o at) h op next e = miss (1 ∷ 2 ∷ []) 0 tt h

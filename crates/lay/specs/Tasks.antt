@@ -1,31 +1,31 @@
 -- One turn over tasks that the definitions read, by what the reader answers there. Assumes nothing.
 use mathlib.Core.Path.{_≡_, refl, sym, ap, _∙_}
 use mathlib.Core.Bool.{Bool, true, false, cond}
-use mathlib.Core.List.{List, [], _∷_, _++_}
+use mathlib.Core.List.{List, [], _∷_}
 use Prim.Native.Nat.{ℕ, zero, suc, _+_, _-_, _≤_, _<_}
 use native.Mathlib.Omega.{arith}
 use lib.Dec.{eqb, ltb}
 use lib.ListN.{length}
-use Rattle.meaning.specs.declared.Statement.{Statement}
 use Rattle.meaning.specs.declared.Statement.the-variants.{Stop}
 use Rattle.meaning.specs.Numbers.{rowLimit, wordOutOfPlace, cutShort}
 use Rattle.meaning.specs.Text.{Body}
 use Rattle.meaning.specs.Image.{rowNo}
 use Rattle.meaning.specs.Layout.{sizeB, rowsB, rowsT, firstRows}
 use Rattle.meaning.specs.Bytes.{two, firstBytes}
+use Rattle.meaning.specs.Tests.{cond-all}
 use lib.Seq.{sets}
 use Rattle.rows.specs.Rows.{rowPut}
 use Rattle.layout.specs.Laid.{rowsB-length}
 use Rattle.words.specs.declared.Word.{Word}
 use Rattle.words.specs.Words.{noKind, taskKind, endKind, wordAt}
 use Rattle.reader.specs.declared.Read.{Read}
-use Rattle.reader.specs.Reading.{Part, got, none, bad, bind, bodyFrom, body, taskEnd, taskBy, tasksBy, tasksFrom}
+use Rattle.reader.specs.Reading.{Part, got, none, bad, bodyFrom, body, taskEnd, taskBy, tasksBy, tasksFrom}
 use Rattle.reader.specs.Answers.{told, TaskTold}
-use Rattle.reader.specs.PartLaws.{told-got, Stops, All, bind-all, cond-all, ways-all, row-all}
+use Rattle.reader.specs.PartLaws.{none-got, bad-got, same-got, bind-got, told-got, Stops, All, bind-all, ways-all, row-all}
 use Rattle.reader.specs.SizeLaws.{SizedB, body-sized}
 use Rattle.reader.specs.JobLaws.{tasks-step}
 use Rattle.lay.specs.Laid.{laid, laid-append, laid-cons, laid-nil}
-use Rattle.lay.specs.Turns.{none-got, bad-got, same-got, bind-got, way-first, way-second}
+use Rattle.lay.specs.Turns.{way-first, way-second}
 
 module _ (s : List ℕ) (channels : ℕ) where
   abbrev SizedT : ℕ → Body → ℕ → Type 0

@@ -4,7 +4,6 @@ use mathlib.Core.Bool.{Bool, true, false, cond}
 use mathlib.Core.List.{List, [], _∷_, _++_}
 use Prim.Native.Nat.{ℕ, zero, suc, _+_, _-_, _≤_, _<_}
 use native.Mathlib.Omega.{arith}
-use native.Mathlib.Numerals.{add-one}
 use borrow.Author.Tests.{eq-eqb, ne-eqb, eqb-true, eqb-false}
 use lib.Dec.{eqb, ltb}
 use lib.ListN.{length}
@@ -19,42 +18,27 @@ use Rattle.meaning.specs.Text.{Stmt, operate, close, stop, range, repeat, ifok,
 use Rattle.meaning.specs.Image.{rowNo}
 use Rattle.meaning.specs.Layout.{caseCount, sizeS, sizeB, sizeC, entry, caseRows, defaultRow, rowsS, rowsB, rowsC}
 use Rattle.rows.specs.Rows.{rowPut}
-use Rattle.layout.specs.Laid.{caseRows-length, rowsS-length, rowsB-length, rowsC-length}
+use Rattle.layout.specs.Laid.{caseRows-length, rowsS-length, rowsB-length}
 use Rattle.words.specs.declared.Word.{Word}
 use Rattle.words.specs.Words.{noKind, elseKind, caseKind, defaultKind, endKind, wordAt}
 use Rattle.reader.specs.declared.Read.{Read}
 use Rattle.reader.specs.declared.Counted.{Counted}
 use Rattle.reader.specs.declared.OpRead.{OpRead}
 use Rattle.reader.specs.declared.Head.{Head}
-use Rattle.reader.specs.Reading.{Part, got, none, bad, bind, misplaced, closedBy, closed, opBy, secondBy, orMisplaced, caseOp, caseBy, lastBy, casesBy, casesFrom, stmtBy, bodyBy, bodyFrom}
+use Rattle.reader.specs.Reading.{Part, got, none, bad, bind, closedBy, closed, secondBy, orMisplaced, caseOp, caseBy, lastBy, casesBy, casesFrom, stmtBy, bodyBy, bodyFrom}
 use Rattle.reader.specs.Answers.{isStatement, told, counted, self, countBy, countFrom, opPart, OpTold, StmtTold, BodyTold, CaseTold, CasesTold, HeadTold}
-use Rattle.reader.specs.PartLaws.{told-got, Stops, All, bind-all, ways-all, row-all}
+use Rattle.reader.specs.PartLaws.{none-got, bad-got, same-got, bind-got, told-got, Stops, All, bind-all, ways-all, row-all}
 use Rattle.reader.specs.HeadLaws as heads
 use Rattle.reader.specs.HeadLaws.{stmtOf, head-told, stmt-of, no-statement}
 use Rattle.reader.specs.SizeLaws.{SizedS, SizedB, SizedC, stmt-sized, body-sized, cases-sized, case-op}
 use Rattle.reader.specs.SelectLaws.{behindCases, cases-split}
 use Rattle.reader.specs.BodyLaws.{case-grows}
-use Rattle.accepted.specs.Kept.{Kept, Anywhere, BodyRead, StmtRead}
+use Rattle.accepted.specs.Kept.{Kept, Anywhere, BodyRead}
 use Rattle.accepted.specs.Decided.{Sure, body-sure, statement-sure}
-use Rattle.accepted.specs.Walk.{body-kept, statement-kept}
+use Rattle.accepted.specs.Walk.{body-kept}
 use Rattle.accepted.specs.Steps.{body-read, statement-read}
 use Rattle.lay.specs.Laid.{laid, laid-append, laid-cons, laid-nil, laid-one}
 use Rattle.lay.specs.Told.{FirstTold}
-
-pub none-got : {A : Type 0} {x : A} {a r : ℕ} → none ≡ got x a r → ⊥
-none-got e = let z : _≡_ {A = ℕ} 0 1 = cc in omega arith
-
-pub bad-got : {A : Type 0} {n place : ℕ} {x : A} {a r : ℕ} → bad n place ≡ got x a r → ⊥
-bad-got e = let z : _≡_ {A = ℕ} 0 1 = cc in omega arith
-
-pub same-got : {A : Type 0} {x y : A} {a b r m : ℕ} → got x a r ≡ got y b m → (x ≡ y) × (a ≡ b) × (r ≡ m)
-same-got e = (cc, cc, cc)
-
-pub bind-got : {A B : Type 0} (p : Part A) (f : A → ℕ → ℕ → Part B) {y : B} {b m : ℕ} → bind p f ≡ got y b m → (x : A) × (at : ℕ) × (r : ℕ) × (p ≡ got x at r) × (f x at r ≡ got y b m)
-unfolding bind
-bind-got (got x at r) f e = (x, at, r, refl, e)
-bind-got none f e = absurd (none-got e)
-bind-got (bad n place) f e = absurd (bad-got e)
 
 -- A bind whose first part was told to be there.
 pub bind-told : {A B : Type 0} (p : Part A) (f : A → ℕ → ℕ → Part B) {v : Read} {a′ r′ : ℕ} {y : B} {b m : ℕ} → v ≡ Read.Done a′ r′ → v ≡ told p → bind p f ≡ got y b m → (x : A) × (p ≡ got x a′ r′) × (f x a′ r′ ≡ got y b m)

@@ -2,8 +2,6 @@ use Rattle.lay.specs.Laid.{set-past}
 use borrow.Author.Needs.{needs}
 use Rattle.lay.proofs.bytes.put_byte.Statement.{statement}
 use Rattle.lay.proofs.bytes.put_byte.Tie as tie
-use Rattle.lay.proofs.bytes.put_byte.Reads as reads
-use Rattle.lay.proofs.bytes.put_byte.Lts as lts
 
 -- src/bytes.rt:13:9
 slice-write-out : tie.Need-slice-write-out

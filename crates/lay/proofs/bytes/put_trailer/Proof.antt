@@ -2,10 +2,6 @@ use native.Mathlib.Numerals.{towards-suc}
 use borrow.Author.Needs.{needs}
 use Rattle.lay.proofs.bytes.put_trailer.Statement.{statement}
 use Rattle.lay.proofs.bytes.put_trailer.Tie as tie
-use Rattle.lay.proofs.bytes.put_trailer.Reads as reads
-use Rattle.lay.proofs.bytes.put_trailer.Lts as lts
-use Rattle.lay.proofs.bytes.put_byte.Reads as put-byte-reads
-use Rattle.lay.proofs.bytes.put_two.Reads as put-two-reads
 
 -- src/bytes.rt:30:5
 put-two-requires : tie.Need-put-two-requires

@@ -2,9 +2,6 @@ use native.Mathlib.Numerals.{add-one}
 use borrow.Author.Needs.{needs}
 use Rattle.lay.proofs.bytes.put_two.Statement.{statement}
 use Rattle.lay.proofs.bytes.put_two.Tie as tie
-use Rattle.lay.proofs.bytes.put_two.Reads as reads
-use Rattle.lay.proofs.bytes.put_two.Lts as lts
-use Rattle.lay.proofs.bytes.put_byte.Reads as put-byte-reads
 
 -- src/bytes.rt:21:22
 cast-put-byte : tie.Need-cast-put-byte

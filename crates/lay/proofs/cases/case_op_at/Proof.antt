@@ -1,10 +1,6 @@
 use borrow.Author.Needs.{needs}
 use Rattle.lay.proofs.cases.case_op_at.Statement.{statement}
 use Rattle.lay.proofs.cases.case_op_at.Tie as tie
-use Rattle.lay.proofs.cases.case_op_at.Reads as reads
-use Rattle.lay.proofs.cases.case_op_at.Lts as lts
-use Rattle.reader.proofs.heads.read_op.Reads as read-op-reads
-use Rattle.words.proofs.word_at.Reads as word-at-reads
 
 -- src/cases.rt:20:9
 word-at-requires : tie.Need-word-at-requires

@@ -1,5 +1,6 @@
 use borrow.Author.Needs.{needs}
-use Rattle.lay.proofs.Stops.{stops, not-got}
+use Rattle.reader.proofs.Stops.{stops}
+use Rattle.lay.proofs.Stops.{not-got}
 use Rattle.lay.specs.Turns.{case-room, case-turn, no-case, no-oper, last-rows, rows-done, row-laid}
 use Rattle.lay.specs.Laid.{laid}
 use Rattle.reader.specs.BodyLaws.{case-grows}
@@ -13,12 +14,6 @@ use Prim.Native.Nat.{ℕ, suc, _+_, _-_, _*_, _≤_, _<_}
 use mathlib.Core.Path.{_≡_, refl, _∙_}
 use Rattle.lay.proofs.cases.lay_cases.Statement.{statement}
 use Rattle.lay.proofs.cases.lay_cases.Tie as tie
-use Rattle.lay.proofs.cases.lay_cases.Reads as reads
-use Rattle.lay.proofs.cases.lay_cases.Lts as lts
-use Rattle.lay.proofs.cases.case_op_at.Reads as case-op-at-reads
-use Rattle.lay.proofs.firsts.first_at.Reads as first-at-reads
-use Rattle.reader.proofs.statements.read_case.Reads as read-case-reads
-use Rattle.rows.proofs.table.put_row.Reads as put-row-reads
 
 abbrev Inv-loop : tie.InvT-loop
 Inv-loop text channels depth from before top start j out₀ at₀ rows₀ n₀ line₀ i₀ out at rows n line i =

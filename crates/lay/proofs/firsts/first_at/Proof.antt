@@ -3,10 +3,6 @@ use Rattle.lay.specs.Turns.{entry-there, entry-behind}
 use borrow.Author.Needs.{needs}
 use Rattle.lay.proofs.firsts.first_at.Statement.{statement}
 use Rattle.lay.proofs.firsts.first_at.Tie as tie
-use Rattle.lay.proofs.firsts.first_at.Reads as reads
-use Rattle.lay.proofs.firsts.first_at.Lts as lts
-use Rattle.reader.proofs.heads.is_statement.Reads as is-statement-reads
-use Rattle.words.proofs.word_at.Reads as word-at-reads
 
 -- src/firsts.rt:13:9
 word-at-requires : tie.Need-word-at-requires

@@ -5,10 +5,6 @@ use mathlib.Core.Path.{ap}
 use borrow.Author.Needs.{needs}
 use Rattle.lay.proofs.firsts.otherwise_at.Statement.{statement}
 use Rattle.lay.proofs.firsts.otherwise_at.Tie as tie
-use Rattle.lay.proofs.firsts.otherwise_at.Reads as reads
-use Rattle.lay.proofs.firsts.otherwise_at.Lts as lts
-use Rattle.lay.proofs.firsts.first_at.Reads as first-at-reads
-use Rattle.words.proofs.word_at.Reads as word-at-reads
 
 -- src/firsts.rt:25:9
 word-at-requires : tie.Need-word-at-requires

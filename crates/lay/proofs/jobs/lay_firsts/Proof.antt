@@ -1,5 +1,5 @@
 use borrow.Author.Needs.{needs}
-use Rattle.lay.proofs.Stops.{stops}
+use Rattle.reader.proofs.Stops.{stops}
 use Rattle.lay.specs.Tasks.{task-room, task-turn, tasks-done, turn-firsts, firsts-nil}
 use Rattle.reader.specs.JobLaws.{tasks-step}
 use Rattle.reader.specs.Reading.{got, tasksFrom}
@@ -10,15 +10,11 @@ use Rattle.meaning.specs.Numbers.{taskLimit, rowLimit}
 use lib.Seq.{sets}
 use lib.ListN.{length}
 use native.Mathlib.Omega.{arith}
-use Prim.Native.Nat.{ℕ, suc, _+_, _-_, _*_, _≤_, _<_}
+use Prim.Native.Nat.{ℕ, suc, _+_, _-_, _*_, _≤_}
 use mathlib.Core.List.{List}
 use mathlib.Core.Path.{_≡_, refl, _∙_}
 use Rattle.lay.proofs.jobs.lay_firsts.Statement.{statement}
 use Rattle.lay.proofs.jobs.lay_firsts.Tie as tie
-use Rattle.lay.proofs.jobs.lay_firsts.Reads as reads
-use Rattle.lay.proofs.jobs.lay_firsts.Lts as lts
-use Rattle.lay.proofs.bytes.put_two.Reads as put-two-reads
-use Rattle.reader.proofs.jobs.read_task.Reads as read-task-reads
 
 abbrev Inv-loop : tie.InvT-loop
 Inv-loop text channels from before base out₀ at₀ rows₀ n₀ i₀ out at rows n i =

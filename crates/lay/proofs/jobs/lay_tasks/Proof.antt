@@ -1,5 +1,5 @@
 use borrow.Author.Needs.{needs}
-use Rattle.lay.proofs.Stops.{stops}
+use Rattle.reader.proofs.Stops.{stops}
 use Rattle.lay.specs.Tasks.{task-room, task-turn, tasks-done, turn-tasks, tasks-nil}
 use Rattle.lay.specs.Laid.{laid}
 use Rattle.reader.specs.JobLaws.{tasks-step}
@@ -9,17 +9,11 @@ use Rattle.meaning.specs.Text.{Body}
 use Rattle.meaning.specs.Numbers.{taskLimit, rowLimit}
 use lib.ListN.{length}
 use native.Mathlib.Omega.{arith}
-use Prim.Native.Nat.{ℕ, suc, _+_, _-_, _≤_, _<_}
+use Prim.Native.Nat.{ℕ, suc, _+_, _-_, _≤_}
 use mathlib.Core.List.{List}
 use mathlib.Core.Path.{_≡_, refl, _∙_}
 use Rattle.lay.proofs.jobs.lay_tasks.Statement.{statement}
 use Rattle.lay.proofs.jobs.lay_tasks.Tie as tie
-use Rattle.lay.proofs.jobs.lay_tasks.Reads as reads
-use Rattle.lay.proofs.jobs.lay_tasks.Lts as lts
-use Rattle.lay.proofs.statements.lay_body.Reads as lay-body-reads
-use Rattle.reader.proofs.jobs.read_task.Reads as read-task-reads
-use Rattle.rows.proofs.table.put_row.Reads as put-row-reads
-use Rattle.words.proofs.word_at.Reads as word-at-reads
 
 abbrev Inv-loop : tie.InvT-loop
 Inv-loop text channels from before out₀ at₀ rows₀ n₀ out at rows n =

@@ -11,8 +11,10 @@ use Rattle.reader.specs.HeadLaws.{head-told}
 use Rattle.reader.specs.BodyLaws.{stmt-grows, body-grows, case-grows, cases-grow}
 use Rattle.reader.specs.SelectLaws.{behindCases}
 use Rattle.lay.specs.Laid.{laid}
-use Rattle.lay.specs.Turns.{none-got, bad-got, same-got, bind-got, bind-told, bind-stopped, closed-got, stmt-room, body-room, turn, no-turn, turn-laid, body-done, last-default, last-nomore, case-turn, no-oper, no-case, case-room, cases-room, bodies-turn, loop-laid, if-else, if-end, body-size, ifok-laid, ifok-laid-one, last-laid, last-done, chosen, no-cases, select-laid, range-laid, repeat-laid, operate-laid, close-laid, stop-laid, refused-done, head-as}
-use Rattle.lay.proofs.Stops.{stops, not-got}
+use Rattle.reader.specs.PartLaws.{none-got, bad-got, same-got, bind-got}
+use Rattle.lay.specs.Turns.{bind-told, bind-stopped, closed-got, stmt-room, body-room, turn, no-turn, turn-laid, body-done, last-default, last-nomore, case-turn, no-oper, no-case, case-room, cases-room, bodies-turn, loop-laid, if-else, if-end, body-size, ifok-laid, ifok-laid-one, last-laid, last-done, chosen, no-cases, select-laid, range-laid, repeat-laid, operate-laid, close-laid, stop-laid, refused-done, head-as}
+use Rattle.reader.proofs.Stops.{stops}
+use Rattle.lay.proofs.Stops.{not-got}
 use Prim.Native.Nat.{ℕ, suc, _+_, _-_, _*_, _≤_, _<_}
 use borrow.Fn.Kinds.{In}
 use borrow.Fn.PlainCycle.{Measures, is, falls, and}
