@@ -9,12 +9,13 @@ use Rattle.meaning.specs.declared.Port.{Port}
 use Rattle.meaning.specs.declared.Op.{Op}
 use Rattle.meaning.specs.Numbers.{caseLimit, valueLimit, lapLimit, depthLimit, rowLimit, tooDeep, rowsFull}
 use Rattle.meaning.specs.Text.{Stmt, operate, close, stop, range, repeat, select, Body}
+use Rattle.meaning.specs.Tests.{cond-all}
 use Rattle.words.specs.declared.Word.{Word}
 use Rattle.words.specs.Words.{noKind, sendKind, forwardKind, recvKind, nilKind, numberKind, closeKind, rangeKind, repeatKind, ifokKind, selectKind, stopKind, wordAt}
 use Rattle.reader.specs.declared.Head.{Head}
 use Rattle.reader.specs.Reading.{Part, got, none, bad, bind, numberBy, number, closed, portBy, port, opBy, secondBy, casesFrom, stmtBy}
 use Rattle.reader.specs.Answers.{told, isOp, isBlock, isStatement, isTooDeep, headOf, operandsBy, headBy, HeadTold}
-use Rattle.reader.specs.PartLaws.{All, bind-all, cond-all}
+use Rattle.reader.specs.PartLaws.{All, bind-all}
 
 -- THE WAYS OF A STATEMENT'S FIRST WORD
 

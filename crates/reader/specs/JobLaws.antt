@@ -8,6 +8,7 @@ use lib.Dec.{eqb}
 use lib.ListN.{length}
 use Rattle.meaning.specs.Numbers.{channelLimit, capacityLimit, taskLimit, noTask}
 use Rattle.meaning.specs.Text.{Body, Job}
+use Rattle.meaning.specs.Tests.{cond-all}
 use Rattle.words.specs.declared.Word.{Word}
 use Rattle.words.specs.Words.{noKind, chanKind, taskKind, wordAt}
 use Rattle.reader.specs.declared.Read.{Read}
@@ -15,7 +16,7 @@ use Rattle.reader.specs.declared.Counted.{Counted}
 use Rattle.reader.specs.declared.Reading.{Reading}
 use Rattle.reader.specs.Reading.{Part, got, none, bad, bind, number, body, chanBy, chansBy, chansFrom, taskEnd, taskBy, tasksBy, tasksFrom, jobOf, job}
 use Rattle.reader.specs.Answers.{told, counted, ChanTold, ChansTold, TaskTold, TasksTold, toldJob}
-use Rattle.reader.specs.PartLaws.{told-got, All, cond-all, ways-all, counted-more, counted-last}
+use Rattle.reader.specs.PartLaws.{told-got, All, ways-all, counted-more, counted-last}
 use Rattle.reader.specs.HeadLaws.{Kept, number-kept}
 
 -- CHANNELS AND TASKS

@@ -8,6 +8,7 @@ use borrow.Author.Tests.{ltb-true}
 use lib.Dec.{eqb, ltb}
 use lib.ListN.{length}
 use Rattle.meaning.specs.Numbers.{depthLimit, rowLimit, wordOutOfPlace, tooDeep, rowsFull, cutShort}
+use Rattle.meaning.specs.Tests.{cond-all}
 use Rattle.words.specs.declared.Word.{Word}
 use Rattle.words.specs.Words.{noKind}
 use Rattle.reader.specs.declared.Read.{Read}
@@ -109,14 +110,9 @@ bind-all P Q (got x at rows) f h k = k x at rows h
 bind-all P Q none f h k = tt
 bind-all P Q (bad n place) f h k = tt
 
-pub cond-all : {A : Type 0} (P : A → Type 0) (b : Bool) {x y : A} → (b ≡ true → P x) → (b ≡ false → P y) → P (cond b x y)
-cond-all P true f g = f refl
-cond-all P false f g = g refl
-
 -- A choice between two ways that wait for the rows.
 pub ways-all : {A : Type 0} (P : A → ℕ → Type 0) (b : Bool) (f g : ℕ → Part A) (rows : ℕ) → (b ≡ true → All P (f rows)) → (b ≡ false → All P (g rows)) → All P (cond b f g rows)
-ways-all P true f g rows h k = h refl
-ways-all P false f g rows h k = k refl
+ways-all {A} P b f g rows h k = cond-all (λ (way : ℕ → Part A). All P (way rows)) b h k
 
 pub row-all : {A : Type 0} (P : A → ℕ → Type 0) (w : Word) (f : ℕ → Part A) (rows : ℕ) → (rows < rowLimit → All P (f (rows + 1))) → All P (withRow w f rows)
 row-all P w f rows h = ways-all P (ltb rows rowLimit) f (λ r. bad rowsFull (w .start)) (rows + 1) (λ e. h (ltb-true rows rowLimit e)) (λ _. tt)

@@ -9,11 +9,12 @@ use Rattle.meaning.specs.declared.Op.{Op}
 use Rattle.meaning.specs.Numbers.{caseLimit, lapLimit, rowLimit}
 use Rattle.meaning.specs.Text.{Stmt, range, repeat, ifok, select, Body, empty, Cases, nomore}
 use Rattle.meaning.specs.Layout.{caseCount, sizeS, sizeB, sizeC}
+use Rattle.meaning.specs.Tests.{cond-all}
 use Rattle.words.specs.declared.Word.{Word}
 use Rattle.words.specs.Words.{noKind, elseKind, caseKind, defaultKind, endKind, closeKind, rangeKind, repeatKind, ifokKind, selectKind, stopKind, wordAt}
 use Rattle.reader.specs.Reading.{Part, got, none, bad, misplaced, number, closedBy, closed, port, opBy, secondBy, orMisplaced, caseOp, caseBy, lastBy, casesBy, casesFrom, stmtBy, bodyBy, bodyFrom}
 use Rattle.reader.specs.Answers.{isOp}
-use Rattle.reader.specs.PartLaws.{All, bind-all, cond-all, ways-all, row-all, block-all}
+use Rattle.reader.specs.PartLaws.{All, bind-all, ways-all, row-all, block-all}
 use Rattle.reader.specs.HeadLaws.{Kept, number-kept, port-kept, op-kept}
 
 -- A statement takes as many rows as its size says, and so does a body. `sub` reads bodies, and counts right.
