@@ -5,7 +5,7 @@ use mathlib.Core.Path.{_≡_, refl}
 use mathlib.Core.List.{List, [], _∷_, map}
 use Prim.Native.Nat.{ℕ}
 use native.Mathlib.Omega.{arith}
-use lib.ListN.{length, getD}
+use lib.ListN.{getD}
 use Rattle.meaning.specs.declared.Task.{Task}
 use Rattle.meaning.specs.Events.{Numbers, event, numbers}
 use Rattle.meaning.specs.Machine.{Turned, isOn, receivesOn, sendsOn, payload, without, wakeAll, sendOn, receiveOn, closeOn, choose, casesOf, firstCase, waiterBy, addIf, waiterAt, waitersIn, waiters, sendTo, receiveFrom, attempt, ready, act, turnAs, turnOf, turnIf, runs, fresh}
