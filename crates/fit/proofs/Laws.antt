@@ -24,6 +24,3 @@ unfolding times
 times-step t o n i d h k =
     let m : i < length (take n o) = simp length-take (omega arith) in
     rw (drop-cons (take n o) i d m, getD-take n o i d h, add-one)
-
-pub zero-plus : (n : ℕ) → n ≡ 0 + n
-zero-plus n = omega arith

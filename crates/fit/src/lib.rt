@@ -1,7 +1,6 @@
 // Whether a state fits an image, document 01's sentence test by test: refusal 17 is given exactly where this says no. `body` is
 // the image from row 0 on and `k` its counts.
 ghost use mathlib.Core.Path.{_≡_};
-ghost use mathlib.Core.Bool.{_&&_};
 ghost use Rattle.fit.specs.Fitting.{every, noDefault, canWait, placeFits, recordFits, taskFits, lengthFits, nameFits, fitting};
 ghost use Rattle.laws.specs.Fits.{times, mark};
 ghost use Rattle.state.specs.State.{orderOf};
@@ -9,7 +8,6 @@ use image::row::is_target;
 use meaning::Otherwise;
 use meaning::Statement;
 use meaning::Status;
-use meaning::Task;
 use rows::Counts;
 use rows::table::capacity_in;
 use rows::table::statement_at;

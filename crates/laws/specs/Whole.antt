@@ -24,7 +24,7 @@ pub record Whole (bs : List ℕ) (m : Machine Spot) : Type 0 where
   pub placed : Standings (Placed bs Laps) m
   pub fits : Fits (imageLook (rowsOf bs)) m
 
-length-listed : {A : Type 0} (f : ℕ → A) (n i : ℕ) → length (listed f n i) ≡ n
+pub length-listed : {A : Type 0} (f : ℕ → A) (n i : ℕ) → length (listed f n i) ≡ n
 unfolding listed
 length-listed f zero i = refl
 length-listed f (suc n) i = ap suc (length-listed f n (suc i))

@@ -14,6 +14,7 @@ use denote.Shadow.{shadow}
 use denote.Plain.{UInt}
 use denote.Array.{Array, each}
 use Rattle.meaning.specs.Bytes.{listed}
+use Rattle.laws.specs.Whole.{length-listed}
 use Rattle.state.specs.Cells.{over, over-snoc-at}
 
 module _ {A : Type 0} (f : ℕ → A) where
@@ -24,16 +25,11 @@ module _ {A : Type 0} (f : ℕ → A) where
       let e : suc i + n ≡ i + suc n = omega arith in
       ap (λ l. f i ∷ l) (listed-snoc n (suc i) ∙ rw e)
 
-  listed-length : (n i : ℕ) → length (listed f n i) ≡ n
-  unfolding listed
-  listed-length zero i = refl
-  listed-length (suc n) i = ap suc (listed-length n (suc i))
-
   -- One lap of a loop that fills the cells of z with f 0, f 1, ..
   pub fill-lap : (z : List A) (n : ℕ) → n < length z → set (over (listed f n 0) z) n (f n) ≡ over (listed f (n + 1) 0) z
   fill-lap z n h =
       let e : listed f n 0 ++ (f n ∷ []) ≡ listed f (n + 1) 0 = rw (add-one, listed-snoc n 0, zero-add) in
-      over-snoc-at (listed f n 0) z (f n) n (listed-length n 0) h ∙ ap (λ l. over l z) e
+      over-snoc-at (listed f n 0) z (f n) n (length-listed f n 0) h ∙ ap (λ l. over l z) e
 
 -- The rows of an array of arrays have sixteen cells each: what is known of the array says it element by element.
 abbrev CellRow : RattleType

@@ -1,18 +1,14 @@
 -- The list of an image's capacities, by number.
-use mathlib.Core.Path.{_≡_, refl, ap, _∙_}
+use mathlib.Core.Path.{_≡_, ap, _∙_}
 use mathlib.Core.List.{List}
 use Prim.Native.Nat.{ℕ, zero, suc, _+_, _<_}
 use native.Mathlib.Nat.{le-of-suc-le-suc, add-zero, zero-add}
 use native.Mathlib.Omega.{arith}
 use lib.ListN.{length, getD}
+use Rattle.laws.specs.Whole.{length-listed}
 use Rattle.meaning.specs.Bytes.{rowCount, channelCount, bodyOf, capacityIn, listed, capacitiesOf}
 
 module _ {A : Type 0} (g : ℕ → A) where
-  pub length-listed : (n i : ℕ) → length (listed g n i) ≡ n
-  unfolding listed
-  length-listed zero i = refl
-  length-listed (suc n) i = ap suc (length-listed n (suc i))
-
   pub listed-at : (n i k : ℕ) (d : A) → k < n → getD (listed g n i) k d ≡ g (i + k)
   unfolding listed
   listed-at zero i k d h = absurd (omega arith)

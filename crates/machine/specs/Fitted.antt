@@ -19,6 +19,7 @@ use Rattle.meaning.specs.declared.Statement.{Statement}
 use Rattle.meaning.specs.declared.Statement.the-variants.{Do, Close, Range, Repeat, Ifok, Select, Case, Stop}
 use Rattle.meaning.specs.declared.Status.{Status}
 use Rattle.meaning.specs.declared.Status.the-variants.{Able, Waiting, Ended}
+use Rattle.meaning.specs.Tests.{both}
 use Rattle.meaning.specs.Machine.{Standing}
 use Rattle.meaning.specs.Image.{Rows, Spot, imageDefault, imageRepeat, imageStatement, imageLook}
 use Rattle.meaning.specs.Bytes.{rowCount, channelCount, taskCount, bodyOf, rowsIn, rowsOf, capacityIn, listed, capacitiesOf}
@@ -38,10 +39,6 @@ use Rattle.machine.specs.Capacities.{capacity-count, capacity-at}
 use Rattle.machine.specs.View.{standingOf, channelsOf, viewIn, view, Arrays, Fit}
 
 -- TESTS OVER NUMBERS
-
-both : (a b : Bool) → (a && b) ≡ true → (a ≡ true) × (b ≡ true)
-both true b e = (refl, e)
-both false b e = (e, cc)
 
 clash : false ≡ true → ⊥
 clash e = let z : _≡_ {A = ℕ} 0 1 = cc in omega (arith, z)

@@ -17,14 +17,13 @@ use Rattle.image.specs.Sound.{good-sound}
 use Rattle.laws.specs.Lists.{All}
 use Rattle.laws.specs.Points.{Standings}
 use Rattle.laws.specs.Fits.{Fits}
-use Rattle.laws.specs.Whole.{whole-start}
+use Rattle.laws.specs.Whole.{length-listed, whole-start}
 use Rattle.laws.specs.Closed.{OnRow, rows-start}
 use Rattle.state.specs.declared.State.{State}
 use Rattle.state.specs.declared.Turned.{Turned}
 use Rattle.state.specs.declared.ChanState.{ChanState}
 use Rattle.state.specs.State.{Values, noChan, noValues, changed}
 use Rattle.fit.specs.Fitting.{fitting}
-use Rattle.machine.specs.Capacities.{length-listed}
 use Rattle.machine.specs.View.{view, turnedOf, Arrays, Fit}
 use Rattle.machine.specs.Public.{freshTask, freshTasks, unusedTasks, openChans, stateOf, startedAs, started, freshValues, turned}
 use Rattle.machine.specs.Start.{started-means}

@@ -121,6 +121,3 @@ pub attempt-is : (rs : List ℕ) (rows : ℕ) (s : State) (b : Values) (me : Tas
 attempt-is rs rows s b me x (Send p v) hit miss = refl
 attempt-is rs rows s b me x (Forward p) hit miss = refl
 attempt-is rs rows s b me x (Recv p) hit miss = refl
-
-pub zero-plus : (n : ℕ) → n ≡ 0 + n
-zero-plus n = omega arith

@@ -1,7 +1,6 @@
 // Close: the one turn that can wake more than one task.
 ghost use mathlib.Core.Path.{_≡_};
 ghost use mathlib.Core.Bool.{false};
-ghost use Rattle.state.specs.State.{chanIn, orderOf};
 ghost use Rattle.waiters.specs.declared.Side.the-variants.{Receiving, Sending};
 ghost use Rattle.waiters.specs.Waiters.{countWaiters};
 ghost use Rattle.rules.specs.Rules.{wokenAll, withEvent, closeOn, closesOn, closePort};

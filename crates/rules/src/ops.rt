@@ -3,7 +3,6 @@ ghost use mathlib.Core.Path.{_≡_};
 ghost use mathlib.Core.Bool.{true, false};
 ghost use Prim.Native.Nat.{_<_};
 ghost use lib.Dec.{ltb};
-ghost use Rattle.meaning.specs.Bytes.{capacityIn};
 ghost use Rattle.waiters.specs.declared.Found.the-variants.{Nobody};
 ghost use Rattle.waiters.specs.Waiters.{recordOf};
 ghost use Rattle.rules.specs.Rules.{orWait, sendOn, sendsOn, sendTo, receiveOn, receivesOn, receiveFrom, exchangeOf, exchanged, attempt};

@@ -34,6 +34,3 @@ pub count-step : (f : Task → Offer) (o : List Task) (n i : ℕ) (d : Task) →
 count-step f o n i d h k =
     let m : i < length (take n o) = simp length-take (omega arith) in
     rw (drop-cons (take n o) i d m, getD-take n o i d h, add-one)
-
-pub zero-plus : (n : ℕ) → n ≡ 0 + n
-zero-plus n = omega arith

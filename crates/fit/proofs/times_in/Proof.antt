@@ -1,5 +1,5 @@
 use borrow.Author.Needs.{needs}
-use Rattle.fit.proofs.Laws.{times-step, zero-plus}
+use Rattle.fit.proofs.Laws.{times-step}
 use Rattle.fit.specs.Fitting.{taskNo}
 use Rattle.state.specs.Cells.{length-mapped}
 use Rattle.state.specs.State.{orderOf}
@@ -8,7 +8,8 @@ use borrow.Author.Tests.{eq-eqb, ne-eqb}
 use lib.ListN.{length, take, drop, length-take, drop-of-length-le}
 use native.Mathlib.Omega.{arith}
 use Prim.Native.Nat.{_≤_, _-_, _+_, _%_}
-use mathlib.Core.Path.{_≡_}
+use mathlib.Core.Path.{_≡_, sym}
+use native.Mathlib.Nat.{zero-add}
 use Rattle.fit.proofs.times_in.Statement.{statement}
 use Rattle.fit.proofs.times_in.Tie as tie
 
@@ -48,7 +49,7 @@ times-in-spec =
     Inv-loop
     μ-loop
     (λ c. search needs)
-    (λ c. (search needs, (search needs, (search (needs, length-mapped), (search needs, zero-plus _)))))
+    (λ c. (search needs, (search needs, (search (needs, length-mapped), (search needs, sym (zero-add _))))))
     (λ c. search needs)
     (λ c. search needs)
     (λ c. search needs)

@@ -1,14 +1,15 @@
 use borrow.Author.Needs.{needs}
 use Rattle.state.specs.Cells.{length-mapped}
 use Rattle.state.specs.State.{orderOf}
-use Rattle.waiters.proofs.Laws.{count-step, zero-plus}
+use Rattle.waiters.proofs.Laws.{count-step}
 use Rattle.waiters.specs.Waiters.{countOf, waitsAt, countWaiters}
 use Prim.Native.Nat.{_%_}
 use lib.ListN.{length, drop, length-take, drop-of-length-le}
 use denote.Ref.{now}
 use native.Mathlib.Omega.{arith}
 use Prim.Native.Nat.{_≤_, _-_, _+_}
-use mathlib.Core.Path.{_≡_}
+use mathlib.Core.Path.{_≡_, sym}
+use native.Mathlib.Nat.{zero-add}
 use Rattle.waiters.proofs.count_waiters.Statement.{statement}
 use Rattle.waiters.proofs.count_waiters.Tie as tie
 
@@ -20,7 +21,7 @@ abbrev μ-loop : tie.MeasureT-loop
 
 loop-holds : tie.Need-loop-holds Inv-loop μ-loop
 unfolding countWaiters
-loop-holds c = (search needs, (search needs, (search needs, zero-plus _)))
+loop-holds c = (search needs, (search needs, (search needs, sym (zero-add _))))
 
 loop-again : tie.Need-loop-again Inv-loop μ-loop
 loop-again c =

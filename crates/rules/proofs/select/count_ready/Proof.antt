@@ -1,12 +1,12 @@
 use borrow.Author.Needs.{needs}
-use Rattle.rules.proofs.Laws.{kept-count, zero-plus}
+use Rattle.rules.proofs.Laws.{kept-count}
 use Rattle.rules.specs.Rules.{rowReady, readyRows}
 use Rattle.state.specs.Cells.{keep}
 use Rattle.meaning.specs.Bytes.{listed}
 use lib.ListN.{length}
 use denote.Ref.{now}
 use native.Mathlib.Omega.{arith}
-use native.Mathlib.Nat.{sub-zero, add-zero}
+use native.Mathlib.Nat.{sub-zero, add-zero, zero-add}
 use Prim.Native.Nat.{_≤_, _-_, _+_}
 use mathlib.Core.Bool.{true, false}
 use mathlib.Core.Path.{_≡_, sym, _∙_}
@@ -21,7 +21,7 @@ abbrev μ-loop : tie.MeasureT-loop
 
 loop-holds : tie.Need-loop-holds Inv-loop μ-loop
 unfolding readyRows
-loop-holds c = (search needs, (search needs, (omega (arith, c .before .before .good .1 .1 .1 .1 .0), simp (sub-zero, add-zero) (zero-plus _))))
+loop-holds c = (search needs, (search needs, (omega (arith, c .before .before .good .1 .1 .1 .1 .0), simp (sub-zero, add-zero) (sym (zero-add _)))))
 
 loop-again : tie.Need-loop-again Inv-loop μ-loop
 loop-again c =
