@@ -18,7 +18,8 @@ use Rattle.image.specs.Sound.{Sound, good-sound}
 use Rattle.state.specs.declared.TaskState.{TaskState}
 use Rattle.state.specs.Cells.{over, take-over}
 use Rattle.state.specs.State.{noValues}
-use Rattle.machine.specs.Capacities.{length-listed, capacity-count}
+use Rattle.laws.specs.Whole.{length-listed}
+use Rattle.machine.specs.Capacities.{capacity-count}
 use Rattle.machine.specs.View.{standingOf, channelsOf, viewIn, view}
 use Rattle.machine.specs.declared.Started.{Started}
 use Rattle.machine.specs.Public.{freshTask, unusedTasks, freshTasks, stateOf, startedAs, started, freshValues}
