@@ -1,3 +1,4 @@
 pub mod Listed
 pub mod Places
 pub mod Whole
+pub mod Examples

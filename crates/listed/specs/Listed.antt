@@ -6,6 +6,7 @@ use lib.Dec.{ltb}
 use lib.ListN.{length, take, drop}
 use Rattle.meaning.specs.declared.Task.{Task}
 use Rattle.meaning.specs.declared.Chan.{Chan}
+use Rattle.meaning.specs.Numbers.{inputLimit}
 use Rattle.meaning.specs.Events.{numbers}
 use Rattle.translate.specs.declared.Translated.{Translated}
 use Rattle.translate.specs.declared.Translated.the-variants as t
@@ -27,10 +28,6 @@ use Rattle.listed.specs.declared.Session.{Session}
 
 -- THE ANSWER
 
--- "reads up to 48,000 bytes of standard input (more: the line `input too long`)"
-abbrev pub inputLimit : ℕ
-inputLimit = 48000
-
 -- "the job text up to a line `run`", and what stands behind that line.
 abbrev pub textIn : List ℕ → List ℕ
 textIn input = take (splitOf input .text) input
@@ -48,6 +45,7 @@ abbrev pub answeredAs : List ℕ → Translated → Answer
 answeredAs input (t.Refused number place) = Refused number (place % 65536)
 answeredAs input (t.Image n) = scheduled n (splitOf input .rest) (scheduleOf (scheduleIn input))
 
+-- "reads up to 48,000 bytes of standard input (more: the line `input too long`)"
 unfoldable pub answered : List ℕ → ℕ → Answer
 answered input room = cond (ltb inputLimit (length input)) TooLong (answeredAs input (translated (textIn input) room))
 

@@ -8,6 +8,7 @@ use native.Mathlib.Omega.{arith}
 use borrow.Author.Tests.{lt-ltb, le-ltb, ltb-false}
 use lib.Dec.{ltb}
 use lib.ListN.{length, take, drop, length-take, length-drop}
+use Rattle.meaning.specs.Numbers.{inputLimit}
 use Rattle.meaning.specs.Events.{numbers}
 use Rattle.translate.specs.declared.Translated.{Translated}
 use Rattle.translate.specs.declared.Translated.the-variants as t
@@ -25,7 +26,7 @@ use Rattle.lines.specs.Lines.{refusedLine, turnLine, badScheduleLine, tooLongLi
 use Rattle.listed.specs.declared.Answer.{Answer}
 use Rattle.listed.specs.declared.Answer.the-variants.{TooLong, Refused, BadSchedule, Runs}
 use Rattle.listed.specs.declared.Session.{Session}
-use Rattle.listed.specs.Listed.{inputLimit, textIn, scheduleIn, scheduled, answeredAs, answered, imageAfter, begunAs, begun, lineCount, stateLine, turnOf, turnedLine, runLine, runSession, runChange, lineOf, sessionOf, changeOf}
+use Rattle.listed.specs.Listed.{textIn, scheduleIn, scheduled, answeredAs, answered, imageAfter, begunAs, begun, lineCount, stateLine, turnOf, turnedLine, runLine, runSession, runChange, lineOf, sessionOf, changeOf}
 use Rattle.listed.specs.Places.{place-fits}
 
 -- WHAT IS PRINTED

@@ -10,3 +10,4 @@ pub mod Start
 pub mod Fitted
 pub mod Meant
 pub mod Reached
+pub mod Examples

@@ -1,5 +1,6 @@
 -- The definitions compute. Worked jobs of document 01 and of the buyer's vectors, each with the listing that it must print:
--- one table, one claim, for the text and for the image read from its bytes.
+-- one table, one claim, for the text and for the image read from its bytes. Behind it: what a listing does not show, and the bytes
+-- of images, each a table under a claim of its own.
 use mathlib.Core.Path.{_≡_, refl}
 use mathlib.Core.Bool.{Bool, true, false}
 use mathlib.Core.List.{List, [], _∷_, map}
@@ -302,6 +303,42 @@ examples =
     (at 0 0 ∷ at 0 0 ∷ [])
     (turn 0 0 1 0 2 255 ∷ turn 1 0 9 255 0 255 ∷ [])
     (task 0 2 0 0 4 ∷ []) (chan 0 0 1 (2 ∷ []) ∷ []) (stamp 2 0)
+    ∷
+    -- 13 ahead of 14, 16 and 15: task recv nil end task stop end task close nil end
+    example 0 [] ((operate (Recv Nil) ▸ empty) ∷ (stop ▸ empty) ∷ (close Nil ▸ empty) ∷ [])
+    (at 0 0 ∷ at 1 0 ∷ at 3 0 ∷ at 2 0 ∷ at 3 0 ∷ at 1 0 ∷ at 0 0 ∷ [])
+    (turn 0 0 7 255 0 255 ∷ turn 1 1 9 255 0 255 ∷ turn 2 3 14 255 0 255 ∷ turn 3 2 10 255 2 2 ∷ turn 4 3 13 255 0 255 ∷ turn 5 1 13 255 0 255 ∷ turn 6 0 13 255 0 255 ∷ [])
+    (task 0 1 0 0 0 ∷ task 1 2 0 0 2 ∷ task 2 0 0 0 4 ∷ []) [] (stamp 3 2)
+    ∷
+    -- a case inside a loop leaves its laps: chan 4 task repeat 2 select case send 0 1 end end end
+    example 0 (4 ∷ []) ((repeat 2 (select (case (Send (on 0) 1) empty nomore) ▸ empty) ▸ empty) ∷ [])
+    (at 0 0 ∷ at 0 0 ∷ at 0 0 ∷ at 0 0 ∷ at 0 0 ∷ at 0 0 ∷ [])
+    (turn 0 0 8 255 0 255 ∷ turn 1 0 1 0 1 255 ∷ turn 2 0 8 255 0 255 ∷ turn 3 0 1 0 1 255 ∷ turn 4 0 8 255 0 255 ∷ turn 5 0 9 255 0 255 ∷ [])
+    (task 0 2 0 0 3 ∷ []) (chan 0 0 2 (1 ∷ 1 ∷ []) ∷ []) (stamp 6 0)
+    ∷
+    -- the refill goes behind what the buffer holds: chan 2 task send 0 1 send 0 2 send 0 3 end task recv 0 recv 0 recv 0 end
+    example 0 (2 ∷ []) ((operate (Send (on 0) 1) ▸ operate (Send (on 0) 2) ▸ operate (Send (on 0) 3) ▸ empty) ∷ (operate (Recv (on 0)) ▸ operate (Recv (on 0)) ▸ operate (Recv (on 0)) ▸ empty) ∷ [])
+    (at 0 0 ∷ at 0 0 ∷ at 0 0 ∷ at 1 0 ∷ at 1 0 ∷ at 1 0 ∷ [])
+    (turn 0 0 1 0 1 255 ∷ turn 1 0 1 0 2 255 ∷ turn 2 0 7 255 0 255 ∷ turn 3 1 3 0 1 0 ∷ turn 4 1 3 0 2 255 ∷ turn 5 1 3 0 3 255 ∷ [])
+    (task 0 0 0 0 3 ∷ task 1 0 3 1 7 ∷ []) (chan 0 0 0 [] ∷ []) (stamp 6 0)
+    ∷
+    -- the body of the chosen case, then what follows: chan 2 task select case send 0 1 forward 0 case recv nil end close 0 end
+    example 0 (2 ∷ []) ((select (case (Send (on 0) 1) (operate (Forward (on 0)) ▸ empty) (case (Recv Nil) empty nomore)) ▸ close (on 0) ▸ empty) ∷ [])
+    (at 0 0 ∷ at 0 0 ∷ at 0 0 ∷ at 0 0 ∷ [])
+    (turn 0 0 1 0 1 255 ∷ turn 1 0 1 0 0 255 ∷ turn 2 0 6 0 0 255 ∷ turn 3 0 9 255 0 255 ∷ [])
+    (task 0 2 0 0 5 ∷ []) (chan 0 1 2 (1 ∷ 0 ∷ []) ∷ []) (stamp 4 0)
+    ∷
+    -- the body of a woken select's case: chan 0 chan 1 task select case recv 0 forward 1 end end task send 0 6 end
+    example 0 (0 ∷ 1 ∷ []) ((select (case (Recv (on 0)) (operate (Forward (on 1)) ▸ empty) nomore) ▸ empty) ∷ (operate (Send (on 0) 6) ▸ empty) ∷ [])
+    (at 0 0 ∷ at 1 0 ∷ at 0 0 ∷ [])
+    (turn 0 0 7 255 0 255 ∷ turn 1 1 2 0 6 0 ∷ turn 2 0 1 1 6 255 ∷ [])
+    (task 0 0 6 1 3 ∷ task 1 0 0 0 5 ∷ []) (chan 0 0 0 [] ∷ chan 1 0 1 (6 ∷ []) ∷ []) (stamp 3 0)
+    ∷
+    -- the default's body, then what follows: chan 1 task select case recv 0 default send 0 4 end close 0 end
+    example 0 (1 ∷ []) ((select (case (Recv (on 0)) empty (default (operate (Send (on 0) 4) ▸ empty))) ▸ close (on 0) ▸ empty) ∷ [])
+    (at 0 0 ∷ at 0 0 ∷ at 0 0 ∷ at 0 0 ∷ [])
+    (turn 0 0 8 255 0 255 ∷ turn 1 0 1 0 4 255 ∷ turn 2 0 6 0 0 255 ∷ turn 3 0 9 255 0 255 ∷ [])
+    (task 0 2 0 0 4 ∷ []) (chan 0 1 1 (4 ∷ []) ∷ []) (stamp 4 0)
     ∷ []
 
 -- THE CLAIM
@@ -333,3 +370,128 @@ due e = (
 examples-hold : map found examples ≡ map due examples
 unfolding found due imageOf listing last turnLines taskLines channelLines numbers isOn receivesOn sendsOn payload without wakeAll sendOn receiveOn closeOn choose casesOf firstCase waiterBy addIf waiterAt waitersIn waiters sendTo receiveFrom attempt ready m.close act turnAs turnOf turnIf m.turn runs fresh enter textRepeat textCases textDefault textStmt textItem textLook textStart imageCase imageCases imageDefault imageRepeat imageStatement imageLook imageStart caseCount sizeB entry caseRows defaultRow rowsB rowsT firstRows fieldsOf statementOf rowBytes firstBytes imageBytes jobImage trailerOf rowCount channelCount taskCount distance bodyOf fieldsOfRow rowsIn capacityIn firstRowIn rowsOf capacitiesOf firstRowsOf b.listed startOf
 examples-hold = refl
+
+-- WHAT A LISTING DOES NOT SHOW: the waiting order, and the halt record's fault and task named, after a run.
+
+record Kept : Type 0 where
+  order : List ℕ
+  fault : ℕ
+  named : ℕ
+
+record Run : Type 0 where
+  job : Job
+  schedule : Schedule
+  kept : Kept
+
+abbrev ran : List ℕ → List Body → Schedule → List ℕ → ℕ → ℕ → Run
+ran caps bodies ss order fault named = record { job = record { capacities = caps; tasks = bodies }; schedule = ss; kept = record { order = order; fault = fault; named = named } }
+
+abbrev receives : ℕ → Body
+receives c = operate (Recv (on c)) ▸ empty
+
+abbrev sends : ℕ → Body
+sends c = operate (Send (on c) 5) ▸ empty
+
+abbrev keptRuns : List Run
+keptRuns =
+    -- longest first, whatever they wait for; no fault, and task 0 named: chan 0 task recv 0 end task select end end task recv nil end
+    ran (0 ∷ []) (receives 0 ∷ (select nomore ▸ empty) ∷ (operate (Recv Nil) ▸ empty) ∷ [])
+    (at 1 0 ∷ at 2 0 ∷ at 0 0 ∷ [])
+    (1 ∷ 2 ∷ 0 ∷ []) 0 0
+    ∷
+    -- a woken task leaves the order, the others keep theirs: chan 0 chan 0 task recv 0 end task recv 1 end task recv 0 end task send 1 5 end
+    ran (0 ∷ 0 ∷ []) (receives 0 ∷ receives 1 ∷ receives 0 ∷ sends 1 ∷ [])
+    (at 2 0 ∷ at 1 0 ∷ at 0 0 ∷ at 3 0 ∷ [])
+    (2 ∷ 0 ∷ []) 0 0
+    ∷
+    -- the same for a woken sender: chan 0 chan 0 task send 0 5 end task send 1 5 end task send 0 5 end task recv 1 end
+    ran (0 ∷ 0 ∷ []) (sends 0 ∷ sends 1 ∷ sends 0 ∷ receives 1 ∷ [])
+    (at 2 0 ∷ at 1 0 ∷ at 0 0 ∷ at 3 0 ∷ [])
+    (2 ∷ 0 ∷ []) 0 0
+    ∷
+    -- all that a close wakes leave it: chan 0 chan 0 task recv 0 end task recv 1 end task recv 0 end task close 0 end
+    ran (0 ∷ 0 ∷ []) (receives 0 ∷ receives 1 ∷ receives 0 ∷ (close (on 0) ▸ empty) ∷ [])
+    (at 2 0 ∷ at 1 0 ∷ at 0 0 ∷ at 3 0 ∷ [])
+    (1 ∷ []) 0 0
+    ∷
+    -- a fault keeps it and names the mover: chan 0 task send 0 5 end task send 0 5 end task close 0 end
+    ran (0 ∷ []) (sends 0 ∷ sends 0 ∷ (close (on 0) ▸ empty) ∷ [])
+    (at 1 0 ∷ at 0 0 ∷ at 2 0 ∷ at 2 0 ∷ at 0 0 ∷ [])
+    (1 ∷ 0 ∷ []) 4 2
+    ∷ []
+
+keptOf : {P : Type 0} → Machine P → Kept
+keptOf k = record { order = map (λ t. t .0) (k .order); fault = k .fault; named = k .named .0 }
+
+keptBy : Run → Kept × Kept
+keptBy r = (
+  keptOf (last {P = Remainder} {R = ℕ} (λ r. 0) (textStart (r .job)) (runs textLook (r .schedule) (textStart (r .job)))),
+  keptOf (last {P = Spot} {R = ℕ} (λ r. 0) (startOf (jobImage (r .job))) (runs (imageLook (rowsOf (jobImage (r .job)))) (r .schedule) (startOf (jobImage (r .job))))),
+)
+
+kept-hold : map keptBy keptRuns ≡ map (λ r. (r .kept, r .kept)) keptRuns
+unfolding keptOf keptBy last isOn receivesOn sendsOn payload without wakeAll sendOn receiveOn closeOn choose casesOf firstCase waiterBy addIf waiterAt waitersIn waiters sendTo receiveFrom attempt ready m.close act turnAs turnOf turnIf m.turn runs fresh enter textRepeat textCases textDefault textStmt textItem textLook textStart imageCase imageCases imageDefault imageRepeat imageStatement imageLook imageStart caseCount sizeB entry caseRows defaultRow rowsB rowsT firstRows fieldsOf statementOf rowBytes firstBytes imageBytes jobImage trailerOf rowCount channelCount taskCount distance bodyOf fieldsOfRow rowsIn capacityIn firstRowIn rowsOf capacitiesOf firstRowsOf b.listed startOf
+kept-hold = refl
+
+-- What is compared after each turn, `seen`, is everything but the points: of a machine whose parts all differ.
+
+abbrev machineAt : {P : Type 0} → P → Machine P
+machineAt p = record {
+  tasks = record { status = Waiting; register = 1; ok = true; point = p } ∷ record { status = Ended; register = 2; ok = false; point = p } ∷ [];
+  order = record { 0 = 3 } ∷ record { 0 = 4 } ∷ [];
+  channels = record { capacity = 5; closed = true; buffer = 6 ∷ 7 ∷ [] } ∷ [];
+  fault = 8;
+  named = record { 0 = 9 };
+  stamp = 10;
+}
+
+seen-holds : m.seen {P = ℕ} (machineAt 11) ≡ machineAt tt
+unfolding m.seen
+seen-holds = refl
+
+-- THE BYTES of an image, written out from document 01, 'Step image': each op, field and count at its place.
+
+record Written : Type 0 where
+  job : Job
+  bytes : List ℕ
+
+abbrev image : List ℕ → List Body → List ℕ → Written
+image caps bodies bytes = record { job = record { capacities = caps; tasks = bodies }; bytes = bytes }
+
+-- op, chan, arg (its low byte and its high byte), next, other
+abbrev row : ℕ → ℕ → ℕ → ℕ → ℕ → ℕ → List ℕ
+row o c low high n m = o ∷ c ∷ low ∷ high ∷ n ∷ 0 ∷ m ∷ 0 ∷ []
+
+abbrev stopRow : List ℕ
+stopRow = row 12 0 0 0 0 0
+
+abbrev images : List Written
+images =
+    -- The listing's: chan 1 task send 0 7 send 0 9 close 0 end task range 0 end end
+    image (1 ∷ []) ((operate (Send (on 0) 7) ▸ operate (Send (on 0) 9) ▸ close (on 0) ▸ empty) ∷ (range (on 0) empty ▸ empty) ∷ [])
+    (row 1 0 7 0 1 0 ++ row 1 0 9 0 2 0 ++ row 4 0 0 0 3 0 ++ stopRow
+    ++ row 5 0 0 0 4 5 ++ stopRow
+    ++ (1 ∷ []) ++ (0 ∷ 0 ∷ 4 ∷ 0 ∷ []) ++ (6 ∷ 0 ∷ 1 ∷ 2 ∷ 53 ∷ 0 ∷ 0x5A ∷ 1 ∷ []))
+    ∷
+    -- Every op: chan 2 chan 0 task
+    --   repeat 3 select case send 0 258 stop case forward 1 case recv nil close nil default recv 1 end end
+    --   ifok forward nil else range 1 repeat 2 end end end
+    --   send nil 65535 end task end
+    image (2 ∷ 0 ∷ [])
+    ((repeat 3 (select (case (Send (on 0) 258) (stop ▸ empty) (case (Forward (on 1)) empty (case (Recv Nil) (close Nil ▸ empty) (default (operate (Recv (on 1)) ▸ empty))))) ▸ empty)
+    ▸ ifok (operate (Forward Nil) ▸ empty) (range (on 1) (repeat 2 empty ▸ empty) ▸ empty)
+    ▸ operate (Send Nil 65535) ▸ empty) ∷ empty ∷ [])
+    (row 6 0 3 0 1 8 ++ row 8 3 1 0 7 0 ++ row 9 0 2 1 5 0 ++ row 10 1 0 0 0 0 ++ row 11 255 0 0 6 0 ++ stopRow ++ row 4 255 0 0 0 0 ++ row 3 1 0 0 0 0
+    ++ row 7 0 0 0 9 10 ++ row 2 255 0 0 12 0 ++ row 5 1 0 0 11 12 ++ row 6 2 2 0 11 10
+    ++ row 1 255 255 255 13 0 ++ stopRow ++ stopRow
+    ++ (2 ∷ 0 ∷ []) ++ (0 ∷ 0 ∷ 14 ∷ 0 ∷ []) ++ (15 ∷ 0 ∷ 2 ∷ 2 ∷ 126 ∷ 0 ∷ 0x5A ∷ 1 ∷ []))
+    ∷
+    -- A case adds no depth, its select does: task select case recv nil repeat 1 end default repeat 1 end end select end end
+    image [] ((select (case (Recv Nil) (repeat 1 empty ▸ empty) (default (repeat 1 empty ▸ empty))) ▸ select nomore ▸ empty) ∷ [])
+    (row 8 1 1 0 3 0 ++ row 11 255 0 0 2 0 ++ row 6 1 1 0 2 4 ++ row 6 1 1 0 3 4 ++ row 8 0 0 0 0 0 ++ stopRow
+    ++ (0 ∷ 0 ∷ []) ++ (6 ∷ 0 ∷ 0 ∷ 1 ∷ 50 ∷ 0 ∷ 0x5A ∷ 1 ∷ []))
+    ∷ []
+
+images-hold : map (λ w. jobImage (w .job)) images ≡ map (λ w. w .bytes) images
+unfolding caseCount sizeB entry caseRows defaultRow rowsB rowsT firstRows fieldsOf rowBytes firstBytes imageBytes jobImage
+images-hold = refl

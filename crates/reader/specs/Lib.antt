@@ -6,3 +6,4 @@ pub mod PartLaws
 pub mod Reading
 pub mod SelectLaws
 pub mod SizeLaws
+pub mod Examples

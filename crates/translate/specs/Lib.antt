@@ -5,3 +5,4 @@ pub mod Channels
 pub mod Joined
 pub mod Parts
 pub mod Outcome
+pub mod Examples
