@@ -2,9 +2,9 @@
 -- one table, one claim, for the text and for the image read from its bytes. Behind it: what a listing does not show, and the bytes
 -- of images, each a table under a claim of its own.
 use mathlib.Core.Path.{_≡_, refl}
-use mathlib.Core.Bool.{Bool, true, false}
-use mathlib.Core.List.{List, [], _∷_, map}
-use Prim.Native.Nat.{ℕ, suc}
+use mathlib.Core.Bool.{Bool, true, false, cond}
+use mathlib.Core.List.{List, [], _∷_, _++_, map}
+use Prim.Native.Nat.{ℕ, zero, suc}
 use lib.ListN.{length}
 use Rattle.meaning.specs.declared.Task.{Task}
 use Rattle.meaning.specs.declared.Port.{Port}
@@ -16,8 +16,8 @@ use Rattle.meaning.specs.Events.{numbers}
 use Rattle.meaning.specs.Machine.{Standing, Channel, Machine, Turned, isOn, receivesOn, sendsOn, payload, without, wakeAll, sendOn, receiveOn, closeOn, choose, casesOf, firstCase, waiterBy, addIf, waiterAt, waitersIn, waiters, sendTo, receiveFrom, attempt, ready, act, turnAs, turnOf, turnIf, runs, fresh}
 use Rattle.meaning.specs.Machine as m
 use Rattle.meaning.specs.Bytes as b
-use Rattle.meaning.specs.Text.{operate, close, stop, range, repeat, ifok, select, Body, empty, _▸_, nomore, default, case, Job, enter, textRepeat, textCases, textDefault, textStmt, textItem, textLook, textStart}
-use Rattle.meaning.specs.Image.{imageCase, imageCases, imageDefault, imageRepeat, imageStatement, imageLook, imageStart}
+use Rattle.meaning.specs.Text.{operate, close, stop, range, repeat, ifok, select, Body, empty, _▸_, nomore, default, case, Job, Remainder, enter, textRepeat, textCases, textDefault, textStmt, textItem, textLook, textStart}
+use Rattle.meaning.specs.Image.{Spot, imageCase, imageCases, imageDefault, imageRepeat, imageStatement, imageLook, imageStart}
 use Rattle.meaning.specs.Layout.{caseCount, sizeB, entry, caseRows, defaultRow, rowsB, rowsT, firstRows}
 use Rattle.meaning.specs.Bytes.{fieldsOf, statementOf, rowBytes, firstBytes, imageBytes, jobImage, trailerOf, rowCount, channelCount, taskCount, distance, bodyOf, fieldsOfRow, rowsIn, capacityIn, firstRowIn, rowsOf, capacitiesOf, firstRowsOf, startOf}
 
