@@ -2,7 +2,7 @@
 -- one table, one claim, for the text and for the image read from its bytes. Behind it: what a listing does not show, and the bytes
 -- of images, each a table under a claim of its own.
 use mathlib.Core.Path.{_≡_, refl}
-use mathlib.Core.Bool.{Bool, true, false, cond}
+use mathlib.Core.Bool.{Bool, true, false}
 use mathlib.Core.List.{List, [], _∷_, _++_, map}
 use Prim.Native.Nat.{ℕ, zero, suc}
 use lib.ListN.{length}
