@@ -6,7 +6,7 @@ ghost use Rattle.translate.specs.Translated.{translated, written};
 use crate::writing::lay_image;
 use reader::Reading;
 
-pub mod writing;
+mod writing;
 
 // What a translation answers: the image's length, or the refusal's number and place.
 pub enum Translated {
