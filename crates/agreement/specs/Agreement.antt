@@ -10,17 +10,17 @@ use Rattle.meaning.specs.declared.Task.{Task}
 use Rattle.meaning.specs.Machine.{runs}
 use Rattle.meaning.specs.Text.{Job, textLook, textStart}
 use Rattle.meaning.specs.Bytes.{bodyOf, jobImage}
-use Rattle.rows.specs.Rows.{countsOf}
-use Rattle.image.specs.declared.Checked.the-variants.{Good}
-use Rattle.image.specs.Check.{checked}
-use Rattle.laws.specs.Lists.{All}
-use Rattle.laws.specs.Natural.{seenTurn}
-use Rattle.reader.specs.Reading.{got, reading}
-use Rattle.accepted.specs.Accepted.{accepted-passes, accepted-same}
+use Rattle.image_rows.specs.Rows.{countsOf}
+use Rattle.image_check.specs.declared.Checked.the-variants.{Good}
+use Rattle.image_check.specs.Check.{checked}
+use Rattle.meaning_laws.specs.Lists.{All}
+use Rattle.meaning_laws.specs.Natural.{seenTurn}
+use Rattle.text_reader.specs.Reading.{got, reading}
+use Rattle.text_laws.specs.Accepted.{accepted-passes, accepted-same}
 use Rattle.translate.specs.declared.Translated.the-variants.{Image}
 use Rattle.translate.specs.Translated.{translated, written}
 use Rattle.translate.specs.Answered.{Holds, image-written}
-use Rattle.fit.specs.Fitting.{fitting}
+use Rattle.machine_fit.specs.Fitting.{fitting}
 use Rattle.machine.specs.Public.{started, freshValues}
 use Rattle.machine.specs.Reached.{turns, seenTurns, reached-fits, reached-means}
 

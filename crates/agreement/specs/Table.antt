@@ -15,12 +15,12 @@ use Rattle.meaning.specs.Text.{Job, enter, textRepeat, textCases, textDefault, 
 use Rattle.meaning.specs.Image.{imageCase, imageCases, imageDefault, imageRepeat, imageStatement, imageLook, imageStart}
 use Rattle.meaning.specs.Layout.{caseCount, sizeB, entry, caseRows, defaultRow, rowsB, rowsT, firstRows}
 use Rattle.meaning.specs.Bytes.{fieldsOf, statementOf, rowBytes, firstBytes, imageBytes, jobImage, trailerOf, rowCount, channelCount, taskCount, distance, markOf, versionOf, bodyOf, fieldsOfRow, rowsIn, capacityIn, firstRowIn, rowsOf, capacitiesOf, firstRowsOf, startOf}
-use Rattle.rows.specs.Rows.{countsIn, countsOf}
-use Rattle.image.specs.declared.Checked.{Checked}
-use Rattle.image.specs.declared.Checked.the-variants.{Good}
-use Rattle.image.specs.Check.{inTable, owedAfter, portGood, opGood, isCaseRow, owedAt, isTarget, otherwiseGood, casesFollow, capacityBad, statementGood, rowGood, rowBad, firstRowBad, firstOf, refusedAt, bodyChecked, countsGood, checked}
-use Rattle.words.specs.Words.{wordAt, firstNotAllowed, kindOf, valueOf, startAt, nextAt, bytesAt, numeral, decimal, isNumber, onlyDigits, leadingZero, placeOf, differs, sameWord, reserved, run, inWord, isAllowed, isLetter, isDigit, isBlank}
-use Rattle.reader.specs.Reading.{Part, got, none, bad, bind, numberBy, closedBy, portBy, opBy, secondBy, caseOp, caseBy, lastBy, casesFrom, stmtBy, bodyFrom, chanBy, chansFrom, taskEnd, taskBy, tasksFrom, job, reading}
+use Rattle.image_rows.specs.Rows.{countsIn, countsOf}
+use Rattle.image_check.specs.declared.Checked.{Checked}
+use Rattle.image_check.specs.declared.Checked.the-variants.{Good}
+use Rattle.image_check.specs.Check.{inTable, owedAfter, portGood, opGood, isCaseRow, owedAt, isTarget, otherwiseGood, casesFollow, capacityBad, statementGood, rowGood, rowBad, firstRowBad, firstOf, refusedAt, bodyChecked, countsGood, checked}
+use Rattle.text_words.specs.Words.{wordAt, firstNotAllowed, kindOf, valueOf, startAt, nextAt, bytesAt, numeral, decimal, isNumber, onlyDigits, leadingZero, placeOf, differs, sameWord, reserved, run, inWord, isAllowed, isLetter, isDigit, isBlank}
+use Rattle.text_reader.specs.Reading.{Part, got, none, bad, bind, numberBy, closedBy, portBy, opBy, secondBy, caseOp, caseBy, lastBy, casesFrom, stmtBy, bodyFrom, chanBy, chansFrom, taskEnd, taskBy, tasksFrom, job, reading}
 use Rattle.translate.specs.declared.Translated.{Translated}
 use Rattle.translate.specs.declared.Translated.the-variants.{Image, Refused}
 use Rattle.translate.specs.Translated.{translatedTo, translated, writtenTo, written}

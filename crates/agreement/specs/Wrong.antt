@@ -11,10 +11,10 @@ use Rattle.meaning.specs.declared.Event.{Event}
 use Rattle.meaning.specs.declared.Event.the-variants.{Appended, Handed, Taken, Refilled, Received, Drained, Closed, Waits, Branched, Finished, Faulted, Refused}
 use Rattle.meaning.specs.Machine.{Look, Standing, Channel, Machine, Turned, channelAt, shut, moved, store, turn}
 use Rattle.meaning.specs.Text.{Body, repeat, Remainder, todo, textLook, textItem, textStmt, textRepeat}
-use Rattle.laws.specs.Outcome.{Move, faults, hands, appends, refills, takes, receives, drains, wakes, shuts, waits, goes-on, finishes, Outcome, refuses, moves, outcome}
-use Rattle.laws.specs.Fits.{Fits}
-use Rattle.laws.specs.Calm.{all-channels}
-use Rattle.laws.specs.Never as never
+use Rattle.meaning_laws.specs.Outcome.{Move, faults, hands, appends, refills, takes, receives, drains, wakes, shuts, waits, goes-on, finishes, Outcome, refuses, moves, outcome}
+use Rattle.meaning_laws.specs.Fits.{Fits}
+use Rattle.meaning_laws.specs.Calm.{all-channels}
+use Rattle.meaning_laws.specs.Never as never
 
 -- An element replaced by one that f does not tell from it.
 same-to : {A B : Type 0} (f : A → B) (d : A) (g : A → A) → ((a : A) → f (g a) ≡ f a) → (l : List A) (n : ℕ) → map f (set l n (g (getD l n d))) ≡ map f l

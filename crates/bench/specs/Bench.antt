@@ -9,9 +9,9 @@ use lib.ListN.{length, getD, drop, length-drop}
 use lib.Seq.{drop-cons}
 use Rattle.meaning.specs.declared.Task.{Task}
 use Rattle.meaning.specs.Bytes.{rowCount, bodyOf}
-use Rattle.state.specs.declared.State.{State}
-use Rattle.state.specs.State.{Values, changed}
-use Rattle.step.specs.Step.{stepped}
+use Rattle.machine_state.specs.declared.State.{State}
+use Rattle.machine_state.specs.State.{Values, changed}
+use Rattle.machine_step.specs.Step.{stepped}
 use Rattle.machine.specs.Public.{turned}
 
 abbrev pub taskNo : ℕ → Task

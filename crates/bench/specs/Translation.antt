@@ -1,7 +1,7 @@
 -- What the benchmark keeps of a translation and of an image check.
 use Prim.Native.Nat.{ℕ}
-use Rattle.image.specs.declared.Checked.{Checked}
-use Rattle.image.specs.declared.Checked.the-variants as check-answers
+use Rattle.image_check.specs.declared.Checked.{Checked}
+use Rattle.image_check.specs.declared.Checked.the-variants as check-answers
 use Rattle.translate.specs.declared.Translated.{Translated}
 use Rattle.translate.specs.declared.Translated.the-variants as translations
 

@@ -8,11 +8,11 @@ use machine::start;
 use machine::stored;
 use machine::turn;
 use meaning::Task;
-use rows::bytes::body_of;
-use rows::bytes::counts_in;
-use rows::bytes::trailer_of;
-use state::State;
-use step::step;
+use image_rows::bytes::body_of;
+use image_rows::bytes::counts_in;
+use image_rows::bytes::trailer_of;
+use machine_state::State;
+use machine_step::step;
 
 pub mod translation;
 

@@ -1,11 +1,11 @@
 // One translation and one image check, for counting instructions and stack from C.
 ghost use mathlib.Core.Path.{_≡_};
 ghost use lib.ListN.{length};
-ghost use Rattle.image.specs.Check.{checked};
+ghost use Rattle.image_check.specs.Check.{checked};
 ghost use Rattle.translate.specs.Translated.{translated, written};
 ghost use Rattle.bench.specs.Translation.{lengthOf, numberOf};
-use image::Checked;
-use image::check;
+use image_check::Checked;
+use image_check::check;
 use translate::Translated;
 use translate::translate;
 

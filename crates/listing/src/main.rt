@@ -1,13 +1,13 @@
 // The listing program: standard input in, its listing out, line by line. What the lines are is decided in crate `listed`.
 use libc::STDIN_FILENO;
 use libc::STDOUT_FILENO;
-use lines::Line;
-use listed::IMAGE_ROOM;
-use listed::INPUT_ROOM;
-use listed::begin;
-use listed::first;
-use listed::line_count;
-use listed::next;
+use listing_lines::Line;
+use listing_session::IMAGE_ROOM;
+use listing_session::INPUT_ROOM;
+use listing_session::begin;
+use listing_session::first;
+use listing_session::line_count;
+use listing_session::next;
 use machine::fresh_values;
 use machine::stored;
 

@@ -14,8 +14,8 @@ use denote.Shadow.{shadow}
 use denote.Plain.{UInt}
 use denote.Array.{Array, each}
 use Rattle.meaning.specs.Bytes.{listed}
-use Rattle.laws.specs.Whole.{length-listed}
-use Rattle.state.specs.Cells.{over, over-snoc-at}
+use Rattle.meaning_laws.specs.Whole.{length-listed}
+use Rattle.machine_state.specs.Cells.{over, over-snoc-at}
 
 module _ {A : Type 0} (f : ℕ → A) where
   listed-snoc : (n i : ℕ) → listed f (suc n) i ≡ listed f n i ++ (f (i + n) ∷ [])

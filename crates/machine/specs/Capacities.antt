@@ -5,7 +5,7 @@ use Prim.Native.Nat.{ℕ, zero, suc, _+_, _<_}
 use native.Mathlib.Nat.{le-of-suc-le-suc, add-zero, zero-add}
 use native.Mathlib.Omega.{arith}
 use lib.ListN.{length, getD}
-use Rattle.laws.specs.Whole.{length-listed}
+use Rattle.meaning_laws.specs.Whole.{length-listed}
 use Rattle.meaning.specs.Bytes.{rowCount, channelCount, bodyOf, capacityIn, listed, capacitiesOf}
 
 module _ {A : Type 0} (g : ℕ → A) where

@@ -9,14 +9,14 @@ use Rattle.meaning.specs.declared.Status.{Status}
 use Rattle.meaning.specs.declared.Status.the-variants.{Able, Waiting, Ended}
 use Rattle.meaning.specs.Events.{Numbers, event, numbers}
 use Rattle.meaning.specs.Bytes.{fieldsOf, statementOf, trailerOf, distance, markOf, versionOf, bodyOf, fieldsOfRow, rowsIn, capacityIn, firstRowIn}
-use Rattle.rows.specs.Rows.{countsIn, countsOf}
-use Rattle.image.specs.Check.{inTable, owedAfter, portGood, opGood, isCaseRow, owedAt, isTarget, otherwiseGood, casesFollow, capacityBad, statementGood, rowGood, rowBad, firstRowBad, firstOf, refusedAt, bodyChecked, countsGood, checked}
-use Rattle.laws.specs.Fits.{times}
-use Rattle.state.specs.declared.TaskState.{TaskState}
-use Rattle.state.specs.declared.ChanState.{ChanState}
-use Rattle.state.specs.declared.State.{State}
-use Rattle.fit.specs.Fitting.{every, nameFits, taskFits, lengthFits, fitting}
-use Rattle.step.specs.Step.{stepped}
+use Rattle.image_rows.specs.Rows.{countsIn, countsOf}
+use Rattle.image_check.specs.Check.{inTable, owedAfter, portGood, opGood, isCaseRow, owedAt, isTarget, otherwiseGood, casesFollow, capacityBad, statementGood, rowGood, rowBad, firstRowBad, firstOf, refusedAt, bodyChecked, countsGood, checked}
+use Rattle.meaning_laws.specs.Fits.{times}
+use Rattle.machine_state.specs.declared.TaskState.{TaskState}
+use Rattle.machine_state.specs.declared.ChanState.{ChanState}
+use Rattle.machine_state.specs.declared.State.{State}
+use Rattle.machine_fit.specs.Fitting.{every, nameFits, taskFits, lengthFits, fitting}
+use Rattle.machine_step.specs.Step.{stepped}
 use Rattle.machine.specs.Public.{turned}
 
 abbrev taskNo : ℕ → Task

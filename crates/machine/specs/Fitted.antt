@@ -23,18 +23,18 @@ use Rattle.meaning.specs.Tests.{both}
 use Rattle.meaning.specs.Machine.{Standing}
 use Rattle.meaning.specs.Image.{Rows, Spot, imageDefault, imageRepeat, imageStatement, imageLook}
 use Rattle.meaning.specs.Bytes.{rowCount, channelCount, taskCount, bodyOf, rowsIn, rowsOf, capacityIn, listed, capacitiesOf}
-use Rattle.rows.specs.Rows.{countsIn, countsOf}
-use Rattle.image.specs.Check.{isTarget}
-use Rattle.image.specs.Sound.{Sound, Target, target-is, is-target}
-use Rattle.laws.specs.Lists.{All}
-use Rattle.laws.specs.Points.{Standings}
-use Rattle.laws.specs.Fits.{one, times, mark, waitingAt, Within, CanWait, PlaceOf, Place, Fits}
-use Rattle.laws.specs.Closed.{OnRow}
-use Rattle.state.specs.declared.TaskState.{TaskState}
-use Rattle.state.specs.declared.ChanState.{ChanState}
-use Rattle.state.specs.declared.State.{State}
-use Rattle.state.specs.State.{Values, noTask, noChan, orderOf}
-use Rattle.fit.specs.Fitting.{every, taskNo, noDefault, canWait, placeFits, taskFits, lengthFits, nameFits, fitting}
+use Rattle.image_rows.specs.Rows.{countsIn, countsOf}
+use Rattle.image_check.specs.Check.{isTarget}
+use Rattle.image_check.specs.Sound.{Sound, Target, target-is, is-target}
+use Rattle.meaning_laws.specs.Lists.{All}
+use Rattle.meaning_laws.specs.Points.{Standings}
+use Rattle.meaning_laws.specs.Fits.{one, times, mark, waitingAt, Within, CanWait, PlaceOf, Place, Fits}
+use Rattle.meaning_laws.specs.Closed.{OnRow}
+use Rattle.machine_state.specs.declared.TaskState.{TaskState}
+use Rattle.machine_state.specs.declared.ChanState.{ChanState}
+use Rattle.machine_state.specs.declared.State.{State}
+use Rattle.machine_state.specs.State.{Values, noTask, noChan, orderOf}
+use Rattle.machine_fit.specs.Fitting.{every, taskNo, noDefault, canWait, placeFits, taskFits, lengthFits, nameFits, fitting}
 use Rattle.machine.specs.Capacities.{capacity-count, capacity-at}
 use Rattle.machine.specs.View.{standingOf, channelsOf, viewIn, view, Arrays, Fit}
 

@@ -14,12 +14,12 @@ use lib.Seq.{take-suc-set, getD-set-same, set-getD, set-set}
 use Rattle.meaning.specs.declared.Task.{Task}
 use Rattle.meaning.specs.declared.Chan.{Chan}
 use Rattle.meaning.specs.Machine.{Channel, channelAt, holding, shut, without}
-use Rattle.laws.specs.Lists.{map-set, map-at}
-use Rattle.state.specs.declared.TaskState.{TaskState}
-use Rattle.state.specs.declared.ChanState.{ChanState}
-use Rattle.state.specs.declared.State.{State}
-use Rattle.state.specs.Cells.{over, consIf, keep, take-over, keep-length}
-use Rattle.state.specs.State.{Values, noTask, noChan, noTasks, noValues, other, orderOf, shifted}
+use Rattle.meaning_laws.specs.Lists.{map-set, map-at}
+use Rattle.machine_state.specs.declared.TaskState.{TaskState}
+use Rattle.machine_state.specs.declared.ChanState.{ChanState}
+use Rattle.machine_state.specs.declared.State.{State}
+use Rattle.machine_state.specs.Cells.{over, consIf, keep, take-over, keep-length}
+use Rattle.machine_state.specs.State.{Values, noTask, noChan, noTasks, noValues, other, orderOf, shifted}
 use Rattle.machine.specs.View.{standingOf, channelOf, channelsOf}
 
 pub sixteen : (n : ℕ) → n < 16 → n % 16 ≡ n

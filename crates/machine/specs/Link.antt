@@ -32,24 +32,24 @@ use Rattle.meaning.specs.Numbers.{stampModulus, sendOnClosed, closeOfNil, close
 use Rattle.meaning.specs.Machine as m
 use Rattle.meaning.specs.Image.{Spot, spot, rowNo, imageCase, imageCases, imageDefault, imageRepeat, imageStatement, imageLook}
 use Rattle.meaning.specs.Bytes.{rowCount, channelCount, bodyOf, rowsIn, rowsOf, capacityIn, listed, capacitiesOf}
-use Rattle.image.specs.Sound.{PortSound, OpSound, Followed, StatementSound, Sound}
-use Rattle.laws.specs.Lists.{all-at}
-use Rattle.laws.specs.Spare.{spare}
-use Rattle.laws.specs.Closed.{OnRow}
-use Rattle.state.specs.declared.TaskState.{TaskState}
-use Rattle.state.specs.declared.ChanState.{ChanState}
-use Rattle.state.specs.declared.State.{State}
-use Rattle.state.specs.declared.Plan.{Plan}
-use Rattle.state.specs.Cells.{consIf, keep}
-use Rattle.state.specs.State.{Values, noTask, noChan, oldest, taskIn, chanIn, orderOf, gotTask, wentTask, stoodTask, lineAfter, planned, applied, changed}
-use Rattle.waiters.specs.declared.Side.{Side}
-use Rattle.waiters.specs.declared.Side.the-variants.{Receiving, Sending}
-use Rattle.waiters.specs.declared.Found.{Found}
-use Rattle.waiters.specs.declared.Found.the-variants.{Nobody, At}
-use Rattle.waiters.specs.Waiters.{caseOffer, fits, firstWaiter, countWaiters}
-use Rattle.plans.specs.Plans.{branchPlan, failPlan, waitPlan, endPlan, handPlan, appendPlan, sentBy, takePlan, refillPlan, receivePlan, drainPlan, shutPlan}
-use Rattle.rules.specs.Rules as r
-use Rattle.step.specs.Step.{repeated, acted, actedAt, refusedTurn, turnedAs, stepped}
+use Rattle.image_check.specs.Sound.{PortSound, OpSound, Followed, StatementSound, Sound}
+use Rattle.meaning_laws.specs.Lists.{all-at}
+use Rattle.meaning_laws.specs.Spare.{spare}
+use Rattle.meaning_laws.specs.Closed.{OnRow}
+use Rattle.machine_state.specs.declared.TaskState.{TaskState}
+use Rattle.machine_state.specs.declared.ChanState.{ChanState}
+use Rattle.machine_state.specs.declared.State.{State}
+use Rattle.machine_state.specs.declared.Plan.{Plan}
+use Rattle.machine_state.specs.Cells.{consIf, keep}
+use Rattle.machine_state.specs.State.{Values, noTask, noChan, oldest, taskIn, chanIn, orderOf, gotTask, wentTask, stoodTask, lineAfter, planned, applied, changed}
+use Rattle.machine_waiters.specs.declared.Side.{Side}
+use Rattle.machine_waiters.specs.declared.Side.the-variants.{Receiving, Sending}
+use Rattle.machine_waiters.specs.declared.Found.{Found}
+use Rattle.machine_waiters.specs.declared.Found.the-variants.{Nobody, At}
+use Rattle.machine_waiters.specs.Waiters.{caseOffer, fits, firstWaiter, countWaiters}
+use Rattle.machine_plans.specs.Plans.{branchPlan, failPlan, waitPlan, endPlan, handPlan, appendPlan, sentBy, takePlan, refillPlan, receivePlan, drainPlan, shutPlan}
+use Rattle.machine_rules.specs.Rules as r
+use Rattle.machine_step.specs.Step.{repeated, acted, actedAt, refusedTurn, turnedAs, stepped}
 use Rattle.machine.specs.View.{standingOf, channelOf, channelsOf, viewIn, view, turnedOf, Arrays, Fit}
 use Rattle.machine.specs.Leaves.{sixteen, standings-at, standings-past, tasks-woken, tasks-moved, tasks-same, order-cells, order-kept, order-left, order-joined, channels-same, channel-at, channels-shut, channels-appended, channels-taken, channels-refilled}
 use Rattle.machine.specs.Capacities.{capacity-count, capacity-at}

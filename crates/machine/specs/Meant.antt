@@ -6,15 +6,15 @@ use Prim.Native.Nat.{ℕ}
 use Rattle.meaning.specs.declared.Task.{Task}
 use Rattle.meaning.specs.Numbers.{unfit}
 use Rattle.meaning.specs.Bytes.{rowCount, bodyOf}
-use Rattle.rows.specs.Rows.{countsIn, countsOf}
-use Rattle.image.specs.declared.Checked.the-variants.{Good}
-use Rattle.image.specs.Check.{checked}
-use Rattle.image.specs.Sound.{good-sound}
-use Rattle.state.specs.declared.State.{State}
-use Rattle.state.specs.declared.Turned.{Turned}
-use Rattle.state.specs.State.{Values, changed}
-use Rattle.fit.specs.Fitting.{fitting}
-use Rattle.step.specs.Step.{refusedTurn, stepped}
+use Rattle.image_rows.specs.Rows.{countsIn, countsOf}
+use Rattle.image_check.specs.declared.Checked.the-variants.{Good}
+use Rattle.image_check.specs.Check.{checked}
+use Rattle.image_check.specs.Sound.{good-sound}
+use Rattle.machine_state.specs.declared.State.{State}
+use Rattle.machine_state.specs.declared.Turned.{Turned}
+use Rattle.machine_state.specs.State.{Values, changed}
+use Rattle.machine_fit.specs.Fitting.{fitting}
+use Rattle.machine_step.specs.Step.{refusedTurn, stepped}
 use Rattle.machine.specs.View.{Arrays}
 use Rattle.machine.specs.Link.{step-means}
 use Rattle.machine.specs.Stays.{step-arrays, step-fit}

@@ -11,19 +11,19 @@ use Rattle.meaning.specs.Numbers.{depthLimit, noFault, unfit}
 use Rattle.meaning.specs.Machine as m
 use Rattle.meaning.specs.Image.{rowNo, imageLook}
 use Rattle.meaning.specs.Bytes.{bodyOf, firstRowIn, listed, rowsOf}
-use Rattle.rows.specs.declared.Counts.{Counts}
-use Rattle.rows.specs.Rows.{countsOf}
-use Rattle.image.specs.declared.Checked.{Checked}
-use Rattle.image.specs.declared.Checked.the-variants.{Good, Refused}
-use Rattle.image.specs.Check.{checked}
-use Rattle.state.specs.declared.TaskState.{TaskState}
-use Rattle.state.specs.declared.ChanState.{ChanState}
-use Rattle.state.specs.declared.State.{State}
-use Rattle.state.specs.declared.Turned.{Turned}
-use Rattle.state.specs.Cells.{over}
-use Rattle.state.specs.State.{Values, noTasks, noValues}
-use Rattle.fit.specs.Fitting.{fitting}
-use Rattle.step.specs.Step.{refusedTurn, stepped}
+use Rattle.image_rows.specs.declared.Counts.{Counts}
+use Rattle.image_rows.specs.Rows.{countsOf}
+use Rattle.image_check.specs.declared.Checked.{Checked}
+use Rattle.image_check.specs.declared.Checked.the-variants.{Good, Refused}
+use Rattle.image_check.specs.Check.{checked}
+use Rattle.machine_state.specs.declared.TaskState.{TaskState}
+use Rattle.machine_state.specs.declared.ChanState.{ChanState}
+use Rattle.machine_state.specs.declared.State.{State}
+use Rattle.machine_state.specs.declared.Turned.{Turned}
+use Rattle.machine_state.specs.Cells.{over}
+use Rattle.machine_state.specs.State.{Values, noTasks, noValues}
+use Rattle.machine_fit.specs.Fitting.{fitting}
+use Rattle.machine_step.specs.Step.{refusedTurn, stepped}
 use Rattle.machine.specs.View.{view, turnedOf}
 use Rattle.machine.specs.declared.Started.{Started}
 

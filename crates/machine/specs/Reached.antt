@@ -10,20 +10,20 @@ use Rattle.meaning.specs.declared.Task.{Task}
 use Rattle.meaning.specs.Machine as m
 use Rattle.meaning.specs.Image.{Spot, imageLook}
 use Rattle.meaning.specs.Bytes.{rowCount, channelCount, taskCount, bodyOf, firstRowIn, listed, rowsOf, startOf}
-use Rattle.rows.specs.Rows.{countsIn, countsOf}
-use Rattle.image.specs.declared.Checked.the-variants.{Good}
-use Rattle.image.specs.Check.{checked}
-use Rattle.image.specs.Sound.{good-sound}
-use Rattle.laws.specs.Lists.{All}
-use Rattle.laws.specs.Points.{Standings}
-use Rattle.laws.specs.Fits.{Fits}
-use Rattle.laws.specs.Whole.{length-listed, whole-start}
-use Rattle.laws.specs.Closed.{OnRow, rows-start}
-use Rattle.state.specs.declared.State.{State}
-use Rattle.state.specs.declared.Turned.{Turned}
-use Rattle.state.specs.declared.ChanState.{ChanState}
-use Rattle.state.specs.State.{Values, noChan, noValues, changed}
-use Rattle.fit.specs.Fitting.{fitting}
+use Rattle.image_rows.specs.Rows.{countsIn, countsOf}
+use Rattle.image_check.specs.declared.Checked.the-variants.{Good}
+use Rattle.image_check.specs.Check.{checked}
+use Rattle.image_check.specs.Sound.{good-sound}
+use Rattle.meaning_laws.specs.Lists.{All}
+use Rattle.meaning_laws.specs.Points.{Standings}
+use Rattle.meaning_laws.specs.Fits.{Fits}
+use Rattle.meaning_laws.specs.Whole.{length-listed, whole-start}
+use Rattle.meaning_laws.specs.Closed.{OnRow, rows-start}
+use Rattle.machine_state.specs.declared.State.{State}
+use Rattle.machine_state.specs.declared.Turned.{Turned}
+use Rattle.machine_state.specs.declared.ChanState.{ChanState}
+use Rattle.machine_state.specs.State.{Values, noChan, noValues, changed}
+use Rattle.machine_fit.specs.Fitting.{fitting}
 use Rattle.machine.specs.View.{view, turnedOf, Arrays, Fit}
 use Rattle.machine.specs.Public.{freshTask, freshTasks, unusedTasks, openChans, stateOf, startedAs, started, freshValues, turned}
 use Rattle.machine.specs.Start.{started-means}

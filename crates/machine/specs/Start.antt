@@ -11,14 +11,14 @@ use Rattle.meaning.specs.Numbers.{depthLimit}
 use Rattle.meaning.specs.Machine.{fresh}
 use Rattle.meaning.specs.Image.{spot, imageStart}
 use Rattle.meaning.specs.Bytes.{rowCount, channelCount, taskCount, bodyOf, capacityIn, firstRowIn, listed, capacitiesOf, firstRowsOf, startOf}
-use Rattle.rows.specs.Rows.{countsIn, countsOf}
-use Rattle.image.specs.declared.Checked.the-variants.{Good}
-use Rattle.image.specs.Check.{checked}
-use Rattle.image.specs.Sound.{Sound, good-sound}
-use Rattle.state.specs.declared.TaskState.{TaskState}
-use Rattle.state.specs.Cells.{over, take-over}
-use Rattle.state.specs.State.{noValues}
-use Rattle.laws.specs.Whole.{length-listed}
+use Rattle.image_rows.specs.Rows.{countsIn, countsOf}
+use Rattle.image_check.specs.declared.Checked.the-variants.{Good}
+use Rattle.image_check.specs.Check.{checked}
+use Rattle.image_check.specs.Sound.{Sound, good-sound}
+use Rattle.machine_state.specs.declared.TaskState.{TaskState}
+use Rattle.machine_state.specs.Cells.{over, take-over}
+use Rattle.machine_state.specs.State.{noValues}
+use Rattle.meaning_laws.specs.Whole.{length-listed}
 use Rattle.machine.specs.Capacities.{capacity-count}
 use Rattle.machine.specs.View.{standingOf, channelsOf, viewIn, view}
 use Rattle.machine.specs.declared.Started.{Started}

@@ -26,30 +26,30 @@ use Rattle.meaning.specs.Numbers.{closeOfNil, closeOfClosed, closeUnderSender, 
 use Rattle.meaning.specs.Machine as m
 use Rattle.meaning.specs.Image.{Spot, imageLook, rowNo}
 use Rattle.meaning.specs.Bytes.{rowCount, channelCount, bodyOf, rowsIn, rowsOf, capacitiesOf, capacityIn}
-use Rattle.image.specs.Sound.{Sound}
-use Rattle.laws.specs.Points.{Standings}
-use Rattle.laws.specs.Fits.{Within, Fits, within-at, fits-turn}
-use Rattle.laws.specs.Closed.{OnRow, rows-turn}
-use Rattle.state.specs.declared.TaskState.{TaskState}
-use Rattle.state.specs.declared.ChanState.{ChanState}
-use Rattle.state.specs.declared.State.{State}
-use Rattle.state.specs.declared.Change.{Change}
-use Rattle.state.specs.declared.Change.the-variants.{Keep, Append, Take, Refill}
-use Rattle.state.specs.declared.Queue.{Queue}
-use Rattle.state.specs.declared.Queue.the-variants.{Stay, Join, Leave}
-use Rattle.state.specs.declared.Plan.{Plan}
-use Rattle.state.specs.declared.Turned.{Turned}
-use Rattle.state.specs.Cells.{over, keep}
-use Rattle.state.specs.State.{Values, noChan, noTasks, oldest, rowFor, taskIn, gotTask, shifted, chanIn, lapOf, lapTask, orderOf, other, lineAfter, planned, applied, withValue, withoutFirst, changed}
-use Rattle.waiters.specs.declared.Side.the-variants.{Receiving, Sending}
-use Rattle.waiters.specs.declared.Offer.{Offer}
-use Rattle.waiters.specs.declared.Offer.the-variants.{Nothing, By}
-use Rattle.waiters.specs.declared.Found.{Found}
-use Rattle.waiters.specs.declared.Found.the-variants.{Nobody, At}
-use Rattle.waiters.specs.Waiters.{caseOffer, waitsAt, firstWaiter, countWaiters}
-use Rattle.plans.specs.Plans.{branchPlan, failPlan, endPlan, shutPlan}
-use Rattle.rules.specs.Rules as r
-use Rattle.step.specs.Step.{repeated, asked, acted, actedAt, refusedTurn, turnedAs, stepped}
+use Rattle.image_check.specs.Sound.{Sound}
+use Rattle.meaning_laws.specs.Points.{Standings}
+use Rattle.meaning_laws.specs.Fits.{Within, Fits, within-at, fits-turn}
+use Rattle.meaning_laws.specs.Closed.{OnRow, rows-turn}
+use Rattle.machine_state.specs.declared.TaskState.{TaskState}
+use Rattle.machine_state.specs.declared.ChanState.{ChanState}
+use Rattle.machine_state.specs.declared.State.{State}
+use Rattle.machine_state.specs.declared.Change.{Change}
+use Rattle.machine_state.specs.declared.Change.the-variants.{Keep, Append, Take, Refill}
+use Rattle.machine_state.specs.declared.Queue.{Queue}
+use Rattle.machine_state.specs.declared.Queue.the-variants.{Stay, Join, Leave}
+use Rattle.machine_state.specs.declared.Plan.{Plan}
+use Rattle.machine_state.specs.declared.Turned.{Turned}
+use Rattle.machine_state.specs.Cells.{over, keep}
+use Rattle.machine_state.specs.State.{Values, noChan, noTasks, oldest, rowFor, taskIn, gotTask, shifted, chanIn, lapOf, lapTask, orderOf, other, lineAfter, planned, applied, withValue, withoutFirst, changed}
+use Rattle.machine_waiters.specs.declared.Side.the-variants.{Receiving, Sending}
+use Rattle.machine_waiters.specs.declared.Offer.{Offer}
+use Rattle.machine_waiters.specs.declared.Offer.the-variants.{Nothing, By}
+use Rattle.machine_waiters.specs.declared.Found.{Found}
+use Rattle.machine_waiters.specs.declared.Found.the-variants.{Nobody, At}
+use Rattle.machine_waiters.specs.Waiters.{caseOffer, waitsAt, firstWaiter, countWaiters}
+use Rattle.machine_plans.specs.Plans.{branchPlan, failPlan, endPlan, shutPlan}
+use Rattle.machine_rules.specs.Rules as r
+use Rattle.machine_step.specs.Step.{repeated, asked, acted, actedAt, refusedTurn, turnedAs, stepped}
 use Rattle.machine.specs.View.{channelOf, viewIn, view, Arrays, Fit}
 use Rattle.machine.specs.Leaves.{order-kept, shifted-length, channel-at}
 use Rattle.machine.specs.Capacities.{capacity-count, capacity-at}

@@ -27,24 +27,24 @@ use Rattle.meaning.specs.Events.{Numbers, noChannel, noValue, noPartner, portNu
 use Rattle.meaning.specs.Numbers.{halted, noSuchTask, noFault}
 use Rattle.meaning.specs.Image.{rowNo}
 use Rattle.meaning.specs.Bytes.{portOf, rowCount, channelCount, bodyOf, rowsIn, listed}
-use Rattle.image.specs.Sound.{PortSound, OpSound, Followed, StatementSound, Sound}
-use Rattle.laws.specs.Lists.{All, all-get}
-use Rattle.state.specs.declared.TaskState.{TaskState}
-use Rattle.state.specs.declared.ChanState.{ChanState}
-use Rattle.state.specs.declared.State.{State}
-use Rattle.state.specs.declared.Plan.{Plan}
-use Rattle.state.specs.Cells.{consIf, keep}
-use Rattle.state.specs.State.{Values, oldest, taskIn, chanIn, lapOf, lapTask, orderOf}
-use Rattle.waiters.specs.declared.Side.{Side}
-use Rattle.waiters.specs.declared.Side.the-variants.{Receiving, Sending}
-use Rattle.waiters.specs.declared.Offer.{Offer}
-use Rattle.waiters.specs.declared.Offer.the-variants.{Nothing, By}
-use Rattle.waiters.specs.declared.Found.{Found}
-use Rattle.waiters.specs.declared.Found.the-variants.{Nobody, At}
-use Rattle.waiters.specs.Waiters.{caseOffer, foundBy, firstOf, waitsAt, firstWaiter, countWaiters}
-use Rattle.plans.specs.Plans.{branchPlan}
-use Rattle.rules.specs.Rules as r
-use Rattle.step.specs.Step.{repeated, acted, actedAt, refusedTurn, turnedAs, stepped}
+use Rattle.image_check.specs.Sound.{PortSound, OpSound, Followed, StatementSound, Sound}
+use Rattle.meaning_laws.specs.Lists.{All, all-get}
+use Rattle.machine_state.specs.declared.TaskState.{TaskState}
+use Rattle.machine_state.specs.declared.ChanState.{ChanState}
+use Rattle.machine_state.specs.declared.State.{State}
+use Rattle.machine_state.specs.declared.Plan.{Plan}
+use Rattle.machine_state.specs.Cells.{consIf, keep}
+use Rattle.machine_state.specs.State.{Values, oldest, taskIn, chanIn, lapOf, lapTask, orderOf}
+use Rattle.machine_waiters.specs.declared.Side.{Side}
+use Rattle.machine_waiters.specs.declared.Side.the-variants.{Receiving, Sending}
+use Rattle.machine_waiters.specs.declared.Offer.{Offer}
+use Rattle.machine_waiters.specs.declared.Offer.the-variants.{Nothing, By}
+use Rattle.machine_waiters.specs.declared.Found.{Found}
+use Rattle.machine_waiters.specs.declared.Found.the-variants.{Nobody, At}
+use Rattle.machine_waiters.specs.Waiters.{caseOffer, foundBy, firstOf, waitsAt, firstWaiter, countWaiters}
+use Rattle.machine_plans.specs.Plans.{branchPlan}
+use Rattle.machine_rules.specs.Rules as r
+use Rattle.machine_step.specs.Step.{repeated, acted, actedAt, refusedTurn, turnedAs, stepped}
 use Rattle.machine.specs.View.{Arrays, Fit}
 use Rattle.machine.specs.Who.{Named}
 use Rattle.machine.specs.Link.{few-tasks, order-named, row-below}

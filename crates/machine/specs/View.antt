@@ -6,14 +6,14 @@ use lib.ListN.{length, getD, take}
 use Rattle.meaning.specs.Machine.{Standing, Channel, Machine, Turned}
 use Rattle.meaning.specs.Image.{Spot, spot, imageLook}
 use Rattle.meaning.specs.Bytes.{rowCount, channelCount, taskCount, bodyOf, rowsOf, capacityIn, capacitiesOf}
-use Rattle.laws.specs.Points.{Standings}
-use Rattle.laws.specs.Fits.{Fits}
-use Rattle.laws.specs.Closed.{OnRow}
-use Rattle.state.specs.declared.TaskState.{TaskState}
-use Rattle.state.specs.declared.ChanState.{ChanState}
-use Rattle.state.specs.declared.State.{State}
-use Rattle.state.specs.declared.Turned as records
-use Rattle.state.specs.State.{Values, noChan, orderOf, changed}
+use Rattle.meaning_laws.specs.Points.{Standings}
+use Rattle.meaning_laws.specs.Fits.{Fits}
+use Rattle.meaning_laws.specs.Closed.{OnRow}
+use Rattle.machine_state.specs.declared.TaskState.{TaskState}
+use Rattle.machine_state.specs.declared.ChanState.{ChanState}
+use Rattle.machine_state.specs.declared.State.{State}
+use Rattle.machine_state.specs.declared.Turned as records
+use Rattle.machine_state.specs.State.{Values, noChan, orderOf, changed}
 
 abbrev pub standingOf : TaskState → Standing Spot
 standingOf x = record { status = x .status; register = x .register; ok = x .ok; point = spot (x .laps) (x .row) }

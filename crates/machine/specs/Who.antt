@@ -19,20 +19,20 @@ use Rattle.meaning.specs.declared.Statement.the-variants.{Do, Close, Range, Rep
 use Rattle.meaning.specs.Machine as m
 use Rattle.meaning.specs.Image.{Spot, spot, rowNo, imageCase, imageCases, imageRepeat, imageStatement, imageLook}
 use Rattle.meaning.specs.Bytes.{rowsIn}
-use Rattle.laws.specs.Lists.{All}
-use Rattle.laws.specs.Fits.{one, times, waitingAt, Fits}
-use Rattle.state.specs.declared.TaskState.{TaskState}
-use Rattle.state.specs.declared.State.{State}
-use Rattle.state.specs.Cells.{consIf, keep}
-use Rattle.state.specs.State.{noTask, taskIn, gotTask}
-use Rattle.waiters.specs.declared.Side.{Side}
-use Rattle.waiters.specs.declared.Side.the-variants.{Receiving}
-use Rattle.waiters.specs.declared.Offer.{Offer}
-use Rattle.waiters.specs.declared.Offer.the-variants.{Nothing, By}
-use Rattle.waiters.specs.declared.Found.{Found}
-use Rattle.waiters.specs.declared.Found.the-variants.{Nobody, At}
-use Rattle.waiters.specs.Waiters as w
-use Rattle.rules.specs.Rules.{idle, wokenBy, wokenTasks}
+use Rattle.meaning_laws.specs.Lists.{All}
+use Rattle.meaning_laws.specs.Fits.{one, times, waitingAt, Fits}
+use Rattle.machine_state.specs.declared.TaskState.{TaskState}
+use Rattle.machine_state.specs.declared.State.{State}
+use Rattle.machine_state.specs.Cells.{consIf, keep}
+use Rattle.machine_state.specs.State.{noTask, taskIn, gotTask}
+use Rattle.machine_waiters.specs.declared.Side.{Side}
+use Rattle.machine_waiters.specs.declared.Side.the-variants.{Receiving}
+use Rattle.machine_waiters.specs.declared.Offer.{Offer}
+use Rattle.machine_waiters.specs.declared.Offer.the-variants.{Nothing, By}
+use Rattle.machine_waiters.specs.declared.Found.{Found}
+use Rattle.machine_waiters.specs.declared.Found.the-variants.{Nobody, At}
+use Rattle.machine_waiters.specs.Waiters as w
+use Rattle.machine_rules.specs.Rules.{idle, wokenBy, wokenTasks}
 use Rattle.machine.specs.View.{standingOf}
 use Rattle.machine.specs.Leaves.{sixteen, standings-at, task-set}
 

@@ -3,32 +3,32 @@
 ghost use mathlib.Core.Path.{_≡_};
 ghost use mathlib.Core.Bool.{true};
 ghost use Prim.Native.Nat.{_≤_};
-ghost use Rattle.image.specs.declared.Checked.the-variants.{Good};
-ghost use Rattle.image.specs.Check.{checked};
-ghost use Rattle.fit.specs.Fitting.{fitting};
+ghost use Rattle.image_check.specs.declared.Checked.the-variants.{Good};
+ghost use Rattle.image_check.specs.Check.{checked};
+ghost use Rattle.machine_fit.specs.Fitting.{fitting};
 ghost use Rattle.meaning.specs.Bytes.{bodyOf, startOf};
-ghost use Rattle.rows.specs.Rows.{countsOf};
+ghost use Rattle.image_rows.specs.Rows.{countsOf};
 ghost use Rattle.machine.specs.View.{view};
 ghost use Rattle.machine.specs.Public.{freshTask, freshTasks, stateOf, startedAs, started, freshValues, turnedAfter, turned, Means};
-ghost use Rattle.state.specs.State.{changed};
-use fit::fits;
-use image::Checked;
-use image::check;
+ghost use Rattle.machine_state.specs.State.{changed};
+use machine_fit::fits;
+use image_check::Checked;
+use image_check::check;
 use meaning::Row;
 use meaning::Status;
 use meaning::Task;
-use rows::Counts;
-use rows::bytes::body_of;
-use rows::bytes::counts_in;
-use rows::bytes::trailer_of;
-use rows::table::first_row_in;
-use state::ChanState;
-use state::Change;
-use state::State;
-use state::TaskState;
-use state::Turned;
-use step::refuse;
-use step::step;
+use image_rows::Counts;
+use image_rows::bytes::body_of;
+use image_rows::bytes::counts_in;
+use image_rows::bytes::trailer_of;
+use image_rows::table::first_row_in;
+use machine_state::ChanState;
+use machine_state::Change;
+use machine_state::State;
+use machine_state::TaskState;
+use machine_state::Turned;
+use machine_step::refuse;
+use machine_step::step;
 
 // A start's answer: the check's, and the fresh state; a state with no task where the image is refused.
 pub struct Started {
@@ -132,7 +132,7 @@ pub fn fresh_values() -> [[u16; 16]; 16]
 pub fn stored(values: [[u16; 16]; 16], change: Change) -> [[u16; 16]; 16]
     ensures { λ r. ⌜ r ≡ changed values change ⌝ }
 {
-    state::values::stored(values, change)
+    machine_state::values::stored(values, change)
 }
 
 // The turn once the image's own answer is known.

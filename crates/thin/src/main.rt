@@ -1,17 +1,17 @@
 // Shows the two thin forms on the worked listing of document 01, one line for each answer. The image of its job is opened and
 // asked, once as it is and three times with a fault in it; then a channel is appended to and taken from, at its limits too.
-use image::Checked;
-use lent::Channel;
-use lent::Taken;
+use image_check::Checked;
+use thin_channel::Channel;
+use thin_channel::Taken;
 use libc::STDOUT_FILENO;
 use meaning::Chan;
 use meaning::Fields;
 use meaning::Row;
 use meaning::Task;
-use opened::CapacityAnswer;
-use opened::FirstRowAnswer;
-use opened::RowAnswer;
-use rows::table::fields_of;
+use thin_image::CapacityAnswer;
+use thin_image::FirstRowAnswer;
+use thin_image::RowAnswer;
+use image_rows::table::fields_of;
 
 // The image of `chan 1  task send 0 7 send 0 9 close 0 end  task range 0 end end`, behind three bytes that aren't read. Line by
 // line: those three; rows 0 to 5, which are send 0 7, send 0 9, close 0, stop, range 0, stop; the capacity of channel 0; the
@@ -103,7 +103,7 @@ fn say_first_row(t: u8, a: FirstRowAnswer) {
 
 // The answers of one opening: the check's, and the row, channel and task of this number.
 fn say_asked(image: &[u8], n: u8) {
-    let a = opened::answers_of(image, Row(n as u16), Chan(n), Task(n));
+    let a = thin_image::answers_of(image, Row(n as u16), Chan(n), Task(n));
     let check = a.check;
     let row = a.row;
     let capacity = a.capacity;
@@ -134,7 +134,7 @@ fn put_channel(c: Channel) {
 fn say_append(c: Channel, v: u16) -> Channel {
     put(b"append");
     put_number(v as u64);
-    let added = lent::append_of(c, v);
+    let added = thin_channel::append_of(c, v);
     let after = added.channel;
     put_yes(added.ok);
     put_channel(after);
@@ -143,7 +143,7 @@ fn say_append(c: Channel, v: u16) -> Channel {
 
 fn say_take(c: Channel) -> Channel {
     put(b"take");
-    let took = lent::take_of(c);
+    let took = thin_channel::take_of(c);
     let taken = took.taken;
     let after = took.channel;
     match taken {

@@ -5,8 +5,8 @@ use Prim.Native.Nat.{ℕ}
 use native.Mathlib.Omega.{arith}
 use types.Run.{OneOf, miss}
 use denote.Enum.Declared.{tagOf}
-use Rattle.reader.specs.declared.NumberRead.{NumberRead}
-use Rattle.reader.proofs.NumberRead.{the-type as number-type}
+use Rattle.text_reader.specs.declared.NumberRead.{NumberRead}
+use Rattle.text_reader.proofs.NumberRead.{the-type as number-type}
 
 pub not-number : (v : NumberRead) → OneOf (1 ∷ []) (tagOf number-type v) → (n end : ℕ) → v ≡ NumberRead.Got n end → ⊥
 not-number (NumberRead.Got n′ end′) h n end e = miss (1 ∷ []) 0 tt h

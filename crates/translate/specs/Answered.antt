@@ -11,7 +11,7 @@ use lib.Seq.{take-append-seam, drop-append-seam}
 use Rattle.meaning.specs.Numbers.{bufferTooShort}
 use Rattle.meaning.specs.Text.{Job}
 use Rattle.meaning.specs.Bytes.{jobImage}
-use Rattle.reader.specs.Reading.{Part, got, none, bad, reading}
+use Rattle.text_reader.specs.Reading.{Part, got, none, bad, reading}
 use Rattle.translate.specs.declared.Translated.the-variants.{Image, Refused}
 use Rattle.translate.specs.Translated.{translatedTo, translated, writtenTo, written}
 

@@ -7,16 +7,16 @@ use lib.Dec.{eqb}
 use lib.ListN.{length, set}
 use lib.Seq.{sets}
 use Rattle.meaning.specs.Numbers.{capacityLimit}
-use Rattle.words.specs.declared.Word.{Word}
-use Rattle.words.specs.Words.{chanKind, wordAt}
-use Rattle.reader.specs.declared.NumberRead.{NumberRead}
-use Rattle.reader.specs.Reading.{Part, got, none, bad, number, chanBy, chansBy, chansFrom}
-use Rattle.reader.specs.Answers.{numberPart, NumberTold}
-use Rattle.reader.specs.PartLaws.{none-got, bad-got, same-got, bind-got, All}
-use Rattle.reader.specs.HeadLaws.{Kept, number-kept}
-use Rattle.accepted.specs.Kept as kept
-use Rattle.accepted.specs.Walk as walk
-use Rattle.lay.specs.Turns.{way-first, way-second}
+use Rattle.text_words.specs.declared.Word.{Word}
+use Rattle.text_words.specs.Words.{chanKind, wordAt}
+use Rattle.text_reader.specs.declared.NumberRead.{NumberRead}
+use Rattle.text_reader.specs.Reading.{Part, got, none, bad, number, chanBy, chansBy, chansFrom}
+use Rattle.text_reader.specs.Answers.{numberPart, NumberTold}
+use Rattle.text_reader.specs.PartLaws.{none-got, bad-got, same-got, bind-got, All}
+use Rattle.text_reader.specs.HeadLaws.{Kept, number-kept}
+use Rattle.text_laws.specs.Kept as kept
+use Rattle.text_laws.specs.Walk as walk
+use Rattle.translate_rows.specs.Turns.{way-first, way-second}
 
 -- The first of several channels, whose first word is w, and the rest.
 pub record ChanTurn (s : List ℕ) (left : ℕ) (w : Word) (ns : List ℕ) (a r : ℕ) : Type 0 where

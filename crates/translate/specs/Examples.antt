@@ -6,8 +6,8 @@ use Prim.Native.Nat.{ℕ}
 use lib.ListN.{length, replicate}
 use Rattle.meaning.specs.Layout.{caseCount, sizeB, entry, caseRows, defaultRow, rowsB, rowsT, firstRows}
 use Rattle.meaning.specs.Bytes.{fieldsOf, rowBytes, firstBytes, imageBytes, jobImage}
-use Rattle.words.specs.Words.{wordAt, firstNotAllowed, kindOf, valueOf, startAt, nextAt, bytesAt, numeral, decimal, isNumber, onlyDigits, leadingZero, placeOf, differs, sameWord, reserved, run, inWord, isAllowed, isLetter, isDigit, isBlank}
-use Rattle.reader.specs.Reading.{bind, numberBy, closedBy, portBy, opBy, secondBy, caseOp, caseBy, lastBy, casesFrom, stmtBy, bodyFrom, chanBy, chansFrom, taskEnd, taskBy, tasksFrom, job, reading}
+use Rattle.text_words.specs.Words.{wordAt, firstNotAllowed, kindOf, valueOf, startAt, nextAt, bytesAt, numeral, decimal, isNumber, onlyDigits, leadingZero, placeOf, differs, sameWord, reserved, run, inWord, isAllowed, isLetter, isDigit, isBlank}
+use Rattle.text_reader.specs.Reading.{bind, numberBy, closedBy, portBy, opBy, secondBy, caseOp, caseBy, lastBy, casesFrom, stmtBy, bodyFrom, chanBy, chansFrom, taskEnd, taskBy, tasksFrom, job, reading}
 use Rattle.translate.specs.declared.Translated.{Translated}
 use Rattle.translate.specs.declared.Translated.the-variants.{Image, Refused}
 use Rattle.translate.specs.Translated.{translatedTo, translated, writtenTo, written}

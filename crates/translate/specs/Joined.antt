@@ -10,10 +10,10 @@ use Rattle.meaning.specs.declared.Statement.{Statement}
 use Rattle.meaning.specs.Text.{Job}
 use Rattle.meaning.specs.Layout.{rowsT, firstRows}
 use Rattle.meaning.specs.Bytes.{rowSize, fieldsOf, bytesOf, rowBytes, firstBytes, trailer, imageBytes, jobImage}
-use Rattle.rows.specs.Rows.{rowPut}
-use Rattle.layout.specs.Laid.{firstRows-length}
-use Rattle.layout.specs.ReadBack.{rowBytes-length, firstBytes-length, image-length}
-use Rattle.lay.specs.Laid.{laid}
+use Rattle.image_rows.specs.Rows.{rowPut}
+use Rattle.image_laws.specs.Laid.{firstRows-length}
+use Rattle.image_laws.specs.ReadBack.{rowBytes-length, firstBytes-length, image-length}
+use Rattle.translate_rows.specs.Laid.{laid}
 
 -- Bytes stored one behind the other.
 sets-append : (a b l : List ℕ) (i n : ℕ) → n ≡ i + length a → sets l i (a ++ b) ≡ sets (sets l i a) n b

@@ -9,12 +9,12 @@ use lib.Seq.{sets}
 use Rattle.meaning.specs.Numbers.{channelLimit, taskLimit, rowLimit, bufferTooShort}
 use Rattle.meaning.specs.Text.{Job}
 use Rattle.meaning.specs.Bytes.{trailerSize, spanOf, jobImage}
-use Rattle.reader.specs.declared.Reading.{Reading}
-use Rattle.reader.specs.Reading.{Part, got, none, bad, job, reading}
-use Rattle.reader.specs.Answers.{toldJob}
-use Rattle.accepted.specs.Accepted.{reading-proper, accepted-length}
-use Rattle.accepted.specs.Walk.{reading-ways}
-use Rattle.reader.specs.PartLaws.{bad-got}
+use Rattle.text_reader.specs.declared.Reading.{Reading}
+use Rattle.text_reader.specs.Reading.{Part, got, none, bad, job, reading}
+use Rattle.text_reader.specs.Answers.{toldJob}
+use Rattle.text_laws.specs.Accepted.{reading-proper, accepted-length}
+use Rattle.text_laws.specs.Walk.{reading-ways}
+use Rattle.text_reader.specs.PartLaws.{bad-got}
 use Rattle.translate.specs.declared.Translated.the-variants.{Image, Refused}
 use Rattle.translate.specs.Translated.{translatedTo, translated, writtenTo, written}
 use Rattle.translate.specs.Joined.{stored-at-start}

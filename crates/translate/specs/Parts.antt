@@ -6,12 +6,12 @@ use lib.ListN.{length}
 use Rattle.meaning.specs.Numbers.{channelLimit, taskLimit}
 use Rattle.meaning.specs.Text.{Body, Job}
 use Rattle.meaning.specs.Layout.{rowsT}
-use Rattle.reader.specs.declared.Counted.{Counted}
-use Rattle.reader.specs.Reading.{got, bind, chansFrom, tasksFrom, jobOf, job}
-use Rattle.reader.specs.Answers.{counted, ChansTold}
-use Rattle.accepted.specs.Kept.{Kept, Anywhere, ChansRead, JobRead}
-use Rattle.accepted.specs.Walk.{chans-kept, job-kept}
-use Rattle.reader.specs.PartLaws.{bad-got, same-got, bind-got}
+use Rattle.text_reader.specs.declared.Counted.{Counted}
+use Rattle.text_reader.specs.Reading.{got, bind, chansFrom, tasksFrom, jobOf, job}
+use Rattle.text_reader.specs.Answers.{counted, ChansTold}
+use Rattle.text_laws.specs.Kept.{Kept, Anywhere, ChansRead, JobRead}
+use Rattle.text_laws.specs.Walk.{chans-kept, job-kept}
+use Rattle.text_reader.specs.PartLaws.{bad-got, same-got, bind-got}
 
 -- The channels from the text's first byte on, and the tasks behind them, which no row stands ahead of.
 pub record Parts (s : List ℕ) (j : Job) (a rows : ℕ) : Type 0 where

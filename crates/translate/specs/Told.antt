@@ -7,7 +7,7 @@ use lib.Seq.{sets}
 use Rattle.meaning.specs.Numbers.{channelLimit}
 use Rattle.meaning.specs.Text.{Job}
 use Rattle.meaning.specs.Bytes.{jobImage}
-use Rattle.reader.specs.Reading.{got, chansFrom, job}
+use Rattle.text_reader.specs.Reading.{got, chansFrom, job}
 
 abbrev pub CapacitiesLaid : List ℕ → ℕ → ℕ → List ℕ → List ℕ → Type 0
 CapacitiesLaid s channels base out new = (ns : List ℕ) (a r : ℕ) → chansFrom s channelLimit 0 0 ≡ got ns a r → channels ≡ length ns → new ≡ sets out base ns

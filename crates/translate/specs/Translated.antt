@@ -8,7 +8,7 @@ use lib.ListN.{length, drop}
 use Rattle.meaning.specs.Numbers.{bufferTooShort}
 use Rattle.meaning.specs.Text.{Job}
 use Rattle.meaning.specs.Bytes.{jobImage}
-use Rattle.reader.specs.Reading.{Part, got, none, bad, reading}
+use Rattle.text_reader.specs.Reading.{Part, got, none, bad, reading}
 use Rattle.translate.specs.declared.Translated.{Translated}
 use Rattle.translate.specs.declared.Translated.the-variants.{Image, Refused}
 

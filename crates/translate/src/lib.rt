@@ -4,7 +4,7 @@ ghost use mathlib.Core.Path.{_≡_};
 ghost use lib.ListN.{length};
 ghost use Rattle.translate.specs.Translated.{translated, written};
 use crate::writing::lay_image;
-use reader::Reading;
+use text_reader::Reading;
 
 mod writing;
 
@@ -20,7 +20,7 @@ const BUFFER_TOO_SHORT: u8 = 11;
 pub fn translate(text: &[u8], image: &mut [u8]) -> Translated
     ensures { λ r. ⌜ (r ≡ translated (now (text .entry)) (length (now (image .entry)))) × (now (image .exit) ≡ written (now (text .entry)) (now (image .entry))) ⌝ }
 {
-    match reader::jobs::read(text) {
+    match text_reader::jobs::read(text) {
         Reading::Refused(why, place) => Translated::Refused(why, place),
         Reading::Job(rows, channels, tasks) => {
             let length = 8 * (rows as usize) + (channels as usize) + 2 * (tasks as usize) + 8;

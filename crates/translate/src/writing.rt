@@ -2,16 +2,16 @@
 ghost use Prim.Native.Nat.{_≤_};
 ghost use Rattle.meaning.specs.Numbers.{channelLimit, taskLimit, rowLimit};
 ghost use Rattle.translate.specs.Told.{CapacitiesLaid, ImageLaid};
-use lay::bytes::put_byte;
-use lay::bytes::put_trailer;
-use lay::jobs::lay_firsts;
-use lay::jobs::lay_tasks;
-use reader::Counted;
-use reader::NumberRead;
-use reader::heads::read_number;
-use reader::jobs::read_chans;
-use reader::kinds::CAPACITY_LIMIT;
-use words::word_at;
+use translate_rows::bytes::put_byte;
+use translate_rows::bytes::put_trailer;
+use translate_rows::jobs::lay_firsts;
+use translate_rows::jobs::lay_tasks;
+use text_reader::Counted;
+use text_reader::NumberRead;
+use text_reader::heads::read_number;
+use text_reader::jobs::read_chans;
+use text_reader::kinds::CAPACITY_LIMIT;
+use text_words::word_at;
 
 // One byte of capacity for each of so many channels, from byte base on. Pass 1 has accepted each, so that a number is always there.
 pub fn lay_capacities(text: &[u8], channels: u8, base: usize, out: &mut [u8])

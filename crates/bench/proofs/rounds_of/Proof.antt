@@ -1,4 +1,4 @@
-use Rattle.rows.specs.Rows.{countsIn}
+use Rattle.image_rows.specs.Rows.{countsIn}
 use Rattle.meaning.specs.Bytes.{rowCount}
 use Prim.Native.Nat.{_-_}
 use mathlib.Core.Path.{_∙_}

@@ -1,6 +1,6 @@
 use borrow.Author.Needs.{needs}
 use Rattle.machine.proofs.Laws.{fill-lap}
-use Rattle.state.specs.Cells.{over}
+use Rattle.machine_state.specs.Cells.{over}
 use Rattle.meaning.specs.Bytes.{listed, firstRowIn}
 use Rattle.machine.specs.Public.{freshTask, freshTasks, unusedTasks}
 use denote.Ref.{now}

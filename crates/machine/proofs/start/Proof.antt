@@ -1,6 +1,6 @@
-use Rattle.rows.specs.Rows.{countsIn, countsOf}
+use Rattle.image_rows.specs.Rows.{countsIn, countsOf}
 use Rattle.meaning.specs.Bytes.{taskCount}
-use Rattle.image.specs.Sound.{good-sound}
+use Rattle.image_check.specs.Sound.{good-sound}
 use Rattle.machine.specs.Start.{started-means}
 use Rattle.machine.specs.Public.{started}
 use denote.Ref.{now}

@@ -1,6 +1,6 @@
 use Rattle.machine.proofs.Laws.{rows-length}
-use Rattle.state.specs.Cells.{length-mapped}
-use Rattle.rows.specs.Rows.{countsOf}
+use Rattle.machine_state.specs.Cells.{length-mapped}
+use Rattle.image_rows.specs.Rows.{countsOf}
 use Rattle.machine.specs.Meant.{turned-means}
 use Rattle.machine.specs.View.{Arrays}
 use Rattle.machine.specs.Public.{turned, Means}

@@ -3,7 +3,7 @@ use Rattle.bench.proofs.translation.bench_check.Statement.{statement}
 use Rattle.bench.proofs.translation.bench_check.Tie as tie
 use Rattle.bench.proofs.translation.bench_check.Reads as reads
 use Rattle.bench.proofs.translation.bench_check.Lts as lts
-use Rattle.image.proofs.check.Reads as check-reads
+use Rattle.image_check.proofs.check.Reads as check-reads
 
 -- src/translation.rt:28:11
 check-requires : tie.Need-check-requires

@@ -7,7 +7,7 @@ use native.Mathlib.Nat.{add-zero}
 use lib.ListN.{length}
 use lib.Seq.{sets}
 use Rattle.meaning.specs.Numbers.{channelLimit, capacityLimit}
-use Rattle.reader.specs.Reading.{got, chansFrom}
+use Rattle.text_reader.specs.Reading.{got, chansFrom}
 use Rattle.translate.specs.Channels.{chan-turn, turn-capacities, nothing-left, number-within, same-number, no-number}
 use Rattle.translate.proofs.Stops.{not-number}
 use Rattle.translate.proofs.writing.lay_capacities.Statement.{statement}

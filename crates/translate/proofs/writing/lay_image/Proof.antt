@@ -1,4 +1,4 @@
-use Rattle.lay.proofs.Stops.{not-counted}
+use Rattle.translate_rows.proofs.Stops.{not-counted}
 use Rattle.translate.specs.Parts.{job-parts, tasks-from, tasks-place, chans-there}
 use Rattle.translate.specs.Joined.{joined}
 use borrow.Author.Needs.{needs}

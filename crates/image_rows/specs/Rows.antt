@@ -1,0 +1,21 @@
+-- What the trailer says, as one record; and a row stored in a buffer that an image begins.
+use mathlib.Core.Bool.{cond}
+use mathlib.Core.List.{List}
+use Prim.Native.Nat.{ℕ, _+_, _*_}
+use lib.Dec.{leb}
+use lib.ListN.{length}
+use lib.Seq.{sets}
+use Rattle.meaning.specs.declared.Row.{Row}
+use Rattle.meaning.specs.declared.Statement.{Statement}
+use Rattle.meaning.specs.Bytes.{rowSize, fieldsOf, bytesOf, byteAt, wordAt, trailerOf}
+use Rattle.image_rows.specs.declared.Counts.{Counts}
+
+unfoldable pub countsIn : List ℕ → Counts
+countsIn t = record { rows = wordAt t 0; channels = byteAt t 2; tasks = byteAt t 3; back = wordAt t 4 }
+
+unfoldable pub countsOf : List ℕ → Counts
+countsOf bs = countsIn (trailerOf bs)
+
+-- The eight bytes of the statement at row r, every other byte as it was; nothing where they would pass the buffer's end.
+unfoldable pub rowPut : List ℕ → Row → Statement → List ℕ
+rowPut out r s = cond (leb (rowSize * r .0 + rowSize) (length out)) (sets out (rowSize * r .0) (bytesOf (fieldsOf s))) out

@@ -1,0 +1,78 @@
+-- Document 01, 'What comes back': when a state fits an image, as a test. Refusal 17 is given exactly where it says no.
+use mathlib.Core.Bool.{Bool, true, false, _&&_}
+use mathlib.Core.List.{List}
+use Prim.Native.Nat.{ℕ, zero, suc, _%_}
+use lib.Dec.{eqb, leb, ltb}
+use lib.ListN.{getD}
+use Rattle.meaning.specs.declared.Task.{Task}
+use Rattle.meaning.specs.declared.Otherwise.{Otherwise}
+use Rattle.meaning.specs.declared.Otherwise.the-variants.{Wait, Go}
+use Rattle.meaning.specs.declared.Statement.{Statement}
+use Rattle.meaning.specs.declared.Statement.the-variants.{Do, Close, Range, Repeat, Ifok, Select, Case, Stop}
+use Rattle.meaning.specs.declared.Status.{Status}
+use Rattle.meaning.specs.declared.Status.the-variants.{Able, Waiting, Ended}
+use Rattle.meaning.specs.Numbers.{taskLimit, closeUnderSender}
+use Rattle.meaning.specs.Bytes.{rowsIn, capacityIn}
+use Rattle.image_rows.specs.declared.Counts.{Counts}
+use Rattle.image_check.specs.Check.{isTarget}
+use Rattle.meaning_laws.specs.Fits.{times, mark}
+use Rattle.machine_state.specs.declared.TaskState.{TaskState}
+use Rattle.machine_state.specs.declared.State.{State}
+use Rattle.machine_state.specs.State.{noTask, noChan, orderOf}
+
+-- The n numbers from i on all pass.
+unfoldable pub every : (ℕ → Bool) → ℕ → ℕ → Bool
+every p zero i = true
+every p (suc n) i = p i && every p n (suc i)
+
+abbrev pub taskNo : ℕ → Task
+taskNo n = record { 0 = n }
+
+-- "an operation that can wait", by the kind of row: send, forward, recv and range, and a select without default
+abbrev pub noDefault : Otherwise → Bool
+noDefault Wait = true
+noDefault (Go n) = false
+
+abbrev pub canWait : Statement → Bool
+canWait (Do o n) = true
+canWait (Close p n) = false
+canWait (Range p n a) = true
+canWait (Repeat d k n a) = false
+canWait (Ifok n a) = false
+canWait (Select k e) = noDefault e
+canWait (Case o n) = false
+canWait Stop = false
+
+-- "every one at an operation that can wait"
+abbrev pub placeFits : Status → Statement → Bool
+placeFits Able s = true
+placeFits Waiting s = canWait s
+placeFits Ended s = true
+
+-- A name in the order is a task's.
+unfoldable pub nameFits : Counts → State → ℕ → Bool
+nameFits k s i = ltb (getD (s .order) (i % 16) (taskNo 0) .0) (k .tasks)
+
+-- rs is the image from row 0 on, k its counts.
+module _ (rs : List ℕ) (k : Counts) (s : State) where
+  -- "each task's row is a row and no case row", "the order names exactly the waiting tasks, once each": task i stands as x
+  abbrev pub recordFits : TaskState → ℕ → Bool
+  recordFits x i = isTarget rs (k .rows) (x .row) && (eqb (times (taskNo i) (orderOf s)) (mark (x .status)) && placeFits (x .status) (rowsIn rs (x .row)))
+
+  unfoldable pub taskFits : ℕ → Bool
+  taskFits i = recordFits (getD (s .tasks) (i % 16) noTask) i
+
+  -- "each length is at most its capacity"
+  unfoldable pub lengthFits : ℕ → Bool
+  lengthFits c = leb (getD (s .chans) (c % 16) noChan .len) (capacityIn rs (k .rows) c)
+
+  -- "its task and channel counts are the image's, .. the fault is 0 to 4"
+  unfoldable pub fitting : Bool
+  fitting =
+      eqb (s .taskcount) (k .tasks)
+      && (eqb (s .chancount) (k .channels)
+      && (leb (s .fault) closeUnderSender
+      && (leb (s .waiting) taskLimit
+      && (every (nameFits k s) (s .waiting) 0
+      && (every lengthFits (k .channels) 0
+      && every taskFits (k .tasks) 0)))))

@@ -1,0 +1,37 @@
+use Rattle.machine_rules.specs.Rules.{readyRows, chosenCase}
+use Rattle.machine_rules.proofs.Laws.{chosen-none, chosen-some}
+use denote.Ref.{now}
+use Prim.Native.Nat.{_+_}
+use mathlib.Core.Path.{sym, _∙_}
+use borrow.Author.Needs.{needs}
+use Rattle.machine_rules.proofs.select.chosen_case.Statement.{statement}
+use Rattle.machine_rules.proofs.select.chosen_case.Tie as tie
+
+returns : tie.Need-returns
+unfolding chosenCase
+returns c =
+    let a = c .before .before .before .args in
+    sym (chosen-none (now (a .body)) (a .rows) (a .s) (a .choice) (readyRows (now (a .body)) (a .rows) (a .s) (a .k) (a .row .0 + 1)) (sym (c .before .count-ready .ensures) ∙ c .if1 .taken))
+
+returns-2 : tie.Need-returns-2
+unfolding chosenCase
+returns-2 c =
+    let a = c .before .before .before .before .before .before .args in
+    rw (
+      chosen-some (now (a .body)) (a .rows) (a .s) (a .choice) (readyRows (now (a .body)) (a .rows) (a .s) (a .k) (a .row .0 + 1)) (λ z. c .before .before .before .if1 .left (c .before .before .before .before .count-ready .ensures ∙ z)),
+      ← c .before .before .before .before .count-ready .ensures,
+      ← c .before .before .nth-ready .ensures,
+      ← c .before .statement-at .ensures,
+    ) (c .case-offer .ensures)
+
+pub chosen-case-spec : {M : Type 1} → statement M
+chosen-case-spec =
+    tie.close
+    (tie.spec
+    (λ c κs. search needs)
+    returns
+    (λ c. search needs)
+    (λ c κs. search needs)
+    (λ c κs. search needs)
+    (λ c κs. search needs)
+    returns-2)
