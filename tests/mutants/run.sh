@@ -35,7 +35,7 @@ deps_of() { sed 's/#.*//' "$root/crates.txt" | sed -n "s/^ *$1 *: *//p"; }
 
 # The crates that rest on $1, the crate itself first, in an order in which each follows what it rests on; ahead of others those that
 # are quick and have tables of examples.
-soon='rows image words reader'
+soon='image_rows image_check text_words text_reader'
 above() {
     reached=" $1 "
     echo "$1"
@@ -163,7 +163,7 @@ try() { # EDIT TREE
                 cp "$work/$2/target/log/$c.out" "$work/log/$label.$2" 2>/dev/null
                 errors=$(grep -o "^[^ ]*: error: [^:]*" "$work/$2/target/log/$c.out" | sed "s|^.*/crates/||; s|: error: | |")
                 at=''
-                for w in $worked; do [ -n "$at" ] || at=$(printf '%s\n' "$errors" | grep "/specs/$w:" | head -n 1); done
+                for w in $worked; do [ -n "$at" ] || at=$(printf '%s\n' "$errors" | grep "/specs/laws/$w:" | head -n 1); done
                 class=a
                 [ -n "$at" ] || { class=b at=$(printf '%s\n' "$errors" | head -n 1); }
                 case $errors in *"${file#crates/}:"*) class=bad at=$(printf '%s\n' "$errors" | grep "${file#crates/}:" | head -n 1) ;; esac

@@ -7,9 +7,8 @@ use native.Mathlib.Numerals.{add-one}
 use native.Mathlib.Omega.{arith}
 use lib.ListN.{length, getD, drop, length-drop}
 use lib.Seq.{drop-cons}
-use Rattle.meaning.specs.declared.Task.{Task}
+use Rattle.bench.specs.Kinds.{Task, State}
 use Rattle.meaning.specs.Bytes.{rowCount, bodyOf}
-use Rattle.machine_state.specs.declared.State.{State}
 use Rattle.machine_state.specs.State.{Values, changed}
 use Rattle.machine_step.specs.Step.{stepped}
 use Rattle.machine.specs.Public.{turned}

@@ -1,8 +1,7 @@
 -- What the benchmark keeps of a translation and of an image check.
 use Prim.Native.Nat.{ℕ}
-use Rattle.image_check.specs.declared.Checked.{Checked}
+use Rattle.bench.specs.Kinds.{Checked, Translated}
 use Rattle.image_check.specs.declared.Checked.the-variants as check-answers
-use Rattle.translate.specs.declared.Translated.{Translated}
 use Rattle.translate.specs.declared.Translated.the-variants as translations
 
 abbrev pub lengthOf : Translated → ℕ

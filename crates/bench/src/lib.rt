@@ -3,16 +3,16 @@
 ghost use mathlib.Core.Path.{_≡_};
 ghost use Rattle.bench.specs.Bench.{taskNo, stepRounds, turnRounds, roundsOf, afterPairs};
 ghost use Rattle.machine.specs.Public.{started, freshValues};
+use image_rows::bytes::body_of;
+use image_rows::bytes::counts_in;
+use image_rows::bytes::trailer_of;
 use machine::fresh_values;
 use machine::start;
 use machine::stored;
 use machine::turn;
-use meaning::Task;
-use image_rows::bytes::body_of;
-use image_rows::bytes::counts_in;
-use image_rows::bytes::trailer_of;
 use machine_state::State;
 use machine_step::step;
+use meaning::Task;
 
 pub mod translation;
 

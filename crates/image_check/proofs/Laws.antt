@@ -8,7 +8,7 @@ use native.Mathlib.Omega.{arith}
 use lib.Dec.{ltb}
 use Rattle.meaning.specs.Image.{rowNo}
 use Rattle.meaning.specs.Bytes.{statementOf, fieldsOfRow}
-use Rattle.image_check.specs.declared.First.the-variants.{At}
+use Rattle.image_check.specs.Kinds.{At}
 use Rattle.image_check.specs.Check.{firstOf, isCaseRow, casesFollow, owedAt, owedAfter}
 
 -- One step of a search by number, of the case rows behind a select, and of the count of case rows to come.

@@ -4,25 +4,11 @@ use mathlib.Core.List.{List}
 use Prim.Native.Nat.{ℕ, zero, suc, _-_}
 use lib.ListN.{length}
 use lib.Dec.{eqb, leb, ltb}
-use Rattle.meaning.specs.declared.Row.{Row}
-use Rattle.meaning.specs.declared.Port.{Port}
-use Rattle.meaning.specs.declared.Port.the-variants.{Nil, On}
-use Rattle.meaning.specs.declared.Op.{Op}
-use Rattle.meaning.specs.declared.Op.the-variants.{Send, Forward, Recv}
-use Rattle.meaning.specs.declared.Otherwise.{Otherwise}
-use Rattle.meaning.specs.declared.Otherwise.the-variants.{Wait, Go}
-use Rattle.meaning.specs.declared.Statement.{Statement}
-use Rattle.meaning.specs.declared.Statement.the-variants.{Do, Close, Range, Repeat, Ifok, Select, Case, Stop}
-use Rattle.meaning.specs.declared.Fields.{Fields}
+use Rattle.image_check.specs.Kinds.{Row, Port, Nil, On, Op, Send, Forward, Recv, Otherwise, Wait, Go, Statement, Do, Close, Range, Repeat, Ifok, Select, Case, Stop, Fields, Counts, Checked, Good, Refused, First, Nowhere, At}
 use Rattle.meaning.specs.Numbers.{rowLimit, channelLimit, taskLimit, capacityLimit, caseLimit, lapLimit, depthLimit, imageTooShort, badMark, badVersion, badCounts, badDistance, badRow, badCapacity, badFirstRow}
 use Rattle.meaning.specs.Image.{rowNo}
 use Rattle.meaning.specs.Bytes.{fieldsOf, statementOf, trailerSize, imageMark, imageVersion, spanOf, markOf, versionOf, bodyOf, fieldsOfRow, capacityIn, firstRowIn}
-use Rattle.image_rows.specs.declared.Counts.{Counts}
 use Rattle.image_rows.specs.Rows.{countsOf}
-use Rattle.image_check.specs.declared.Checked.{Checked}
-use Rattle.image_check.specs.declared.Checked.the-variants.{Good, Refused}
-use Rattle.image_check.specs.declared.First.{First}
-use Rattle.image_check.specs.declared.First.the-variants.{Nowhere, At}
 
 -- A ROW
 

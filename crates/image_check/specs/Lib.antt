@@ -1,3 +1,3 @@
+pub mod Kinds
 pub mod Check
-pub mod Sound
-pub mod Examples
+pub mod laws

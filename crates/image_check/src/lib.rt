@@ -5,9 +5,6 @@ ghost use Rattle.image_check.specs.Check.{rowBad, capacityBad, firstRowB
 
 pub mod row;
 
-use row::is_target;
-use row::owed_after;
-use row::row_good;
 use image_rows::Counts;
 use image_rows::bytes::body_of;
 use image_rows::bytes::byte_at;
@@ -17,6 +14,9 @@ use image_rows::table::capacity_in;
 use image_rows::table::fields_of_row;
 use image_rows::table::first_row_in;
 use image_rows::table::statement_of;
+use row::is_target;
+use row::owed_after;
+use row::row_good;
 
 // What the check answers: good, or the refusal's number and place.
 pub enum Checked {

@@ -6,14 +6,14 @@ ghost use lib.Dec.{leb, ltb};
 ghost use Rattle.meaning.specs.Numbers.{caseLimit, lapLimit, depthLimit};
 ghost use Rattle.meaning.specs.Bytes.{statementOf};
 ghost use Rattle.image_check.specs.Check.{inTable, owedAfter, isCaseRow, isTarget, portGood, opGood, otherwiseGood, casesFollow, statementGood, rowGood};
+use image_rows::table::fields_of;
+use image_rows::table::fields_of_row;
 use meaning::Fields;
 use meaning::Op;
 use meaning::Otherwise;
 use meaning::Port;
 use meaning::Row;
 use meaning::Statement;
-use image_rows::table::fields_of;
-use image_rows::table::fields_of_row;
 
 // Whether the table writes these five fields for s, the statement that they read as.
 fn in_table(f: Fields, s: Statement) -> bool

@@ -1,7 +1,4 @@
 -- From the job of a text that is not refused to its image: read back, passing the check, and giving the same turns.
+pub mod Kinds
 pub mod Proper
-pub mod Limits
-pub mod Laid
-pub mod ReadBack
-pub mod Passes
-pub mod Same
+pub mod laws

@@ -2,12 +2,11 @@
 -- The blocks around a statement are counted on the way down, as a reader counts them.
 use Prim.Native.Nat.{ℕ, suc, _≤_, _<_}
 use lib.ListN.{length}
-use Rattle.meaning.specs.declared.Op.{Op}
-use Rattle.meaning.specs.declared.Op.the-variants.{Send, Forward, Recv}
+use Rattle.image_laws.specs.Kinds.{Op, Send, Forward, Recv}
 use Rattle.meaning.specs.Numbers.{channelLimit, capacityLimit, taskLimit, caseLimit, valueLimit, lapLimit, depthLimit, rowLimit}
 use Rattle.meaning.specs.Text.{Stmt, operate, close, stop, range, repeat, ifok, select, Body, empty, _▸_, Cases, nomore, default, case, Job}
 use Rattle.meaning.specs.Layout.{caseCount, rowsT}
-use Rattle.image_check.specs.Sound.{PortSound}
+use Rattle.image_check.specs.laws.Sound.{PortSound}
 use Rattle.meaning_laws.specs.Lists.{All}
 
 -- So many channels are declared.

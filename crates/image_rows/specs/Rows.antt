@@ -5,13 +5,11 @@ use Prim.Native.Nat.{ℕ, _+_, _*_}
 use lib.Dec.{leb}
 use lib.ListN.{length}
 use lib.Seq.{sets}
-use Rattle.meaning.specs.declared.Row.{Row}
-use Rattle.meaning.specs.declared.Statement.{Statement}
-use Rattle.meaning.specs.Bytes.{rowSize, fieldsOf, bytesOf, byteAt, wordAt, trailerOf}
-use Rattle.image_rows.specs.declared.Counts.{Counts}
+use Rattle.image_rows.specs.Kinds.{Row, Statement, Counts}
+use Rattle.meaning.specs.Bytes.{rowSize, fieldsOf, bytesOf, byteAt, twoAt, trailerOf}
 
 unfoldable pub countsIn : List ℕ → Counts
-countsIn t = record { rows = wordAt t 0; channels = byteAt t 2; tasks = byteAt t 3; back = wordAt t 4 }
+countsIn t = record { rows = twoAt t 0; channels = byteAt t 2; tasks = byteAt t 3; back = twoAt t 4 }
 
 unfoldable pub countsOf : List ℕ → Counts
 countsOf bs = countsIn (trailerOf bs)

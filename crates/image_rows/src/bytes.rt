@@ -2,7 +2,7 @@
 // and what stands from row 0 on.
 ghost use mathlib.Core.Path.{_≡_};
 ghost use Prim.Native.Nat.{_<_};
-ghost use Rattle.meaning.specs.Bytes.{byteAt, word, wordAt, trailerOf, bodyOf};
+ghost use Rattle.meaning.specs.Bytes.{byteAt, twoOf, twoAt, trailerOf, bodyOf};
 ghost use Rattle.image_rows.specs.Rows.{countsIn};
 use crate::Counts;
 
@@ -19,17 +19,17 @@ fn wide(x: u8) -> u16
 }
 
 // Low byte first.
-pub fn word_of(low: u8, high: u8) -> u16
-    ensures { λ r. ⌜ r ≡ word low high ⌝ }
+pub fn two_of(low: u8, high: u8) -> u16
+    ensures { λ r. ⌜ r ≡ twoOf low high ⌝ }
 {
     wide(low) + 256 * wide(high)
 }
 
-pub fn word_at(s: &[u8], i: u32) -> u16
-    ensures { λ r. ⌜ r ≡ wordAt (now (s .entry)) i ⌝ }
+pub fn two_at(s: &[u8], i: u32) -> u16
+    ensures { λ r. ⌜ r ≡ twoAt (now (s .entry)) i ⌝ }
 {
     let at = i as usize;
-    word_of(byte_at(s, at), byte_at(s, at + 1))
+    two_of(byte_at(s, at), byte_at(s, at + 1))
 }
 
 // The last eight bytes of an image: all of a slice that is shorter.
@@ -49,10 +49,10 @@ pub fn counts_in(trailer: &[u8]) -> Counts
     ensures { λ r. ⌜ r ≡ countsIn (now (trailer .entry)) ⌝ }
 {
     Counts {
-        rows: word_at(trailer, 0),
+        rows: two_at(trailer, 0),
         channels: byte_at(trailer, 2),
         tasks: byte_at(trailer, 3),
-        back: word_at(trailer, 4),
+        back: two_at(trailer, 4),
     }
 }
 
@@ -60,7 +60,7 @@ pub fn counts_in(trailer: &[u8]) -> Counts
 pub fn body_of(image: &[u8]) -> &[u8]
     ensures { λ r. ⌜ now r ≡ bodyOf (now (image .entry)) ⌝ }
 {
-    let back = word_at(trailer_of(image), 4) as usize;
+    let back = two_at(trailer_of(image), 4) as usize;
     let n = image.len();
     if n < 8 + back {
         return image;

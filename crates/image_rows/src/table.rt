@@ -4,13 +4,12 @@ ghost use Prim.Native.Nat.{_+_, _≤_};
 ghost use lib.ListN.{length};
 ghost use lib.Seq.{sets};
 ghost use Rattle.image_rows.specs.Rows.{rowPut};
-ghost use Rattle.meaning.specs.declared.Statement.the-variants.{Do, Select, Case};
-ghost use Rattle.meaning.specs.Events.{portNumber};
+ghost use Rattle.image_rows.specs.Kinds.{Do, Select, Case};
 ghost use Rattle.meaning.specs.Image.{rowNo};
 ghost use Rattle.meaning.specs.Bytes.{portOf, otherwiseOf, fieldsOf, statementOf, bytesOf, fieldsAt, fieldsOfRow, rowsIn, capacityIn, firstRowIn};
 use crate::bytes::byte_at;
-use crate::bytes::word_at;
-use crate::bytes::word_of;
+use crate::bytes::two_at;
+use crate::bytes::two_of;
 use meaning::Chan;
 use meaning::Fields;
 use meaning::Op;
@@ -18,6 +17,7 @@ use meaning::Otherwise;
 use meaning::Port;
 use meaning::Row;
 use meaning::Statement;
+use meaning::port_number;
 
 fn port_of(n: u8) -> Port
     ensures { λ r. ⌜ r ≡ portOf n ⌝ }
@@ -29,15 +29,6 @@ fn port_of(n: u8) -> Port
     }
 }
 
-pub fn port_number(p: Port) -> u8
-    ensures { λ r. ⌜ r ≡ portNumber p ⌝ }
-{
-    match p {
-        Port::Nil => 255,
-        Port::On(c) => c.0,
-    }
-}
-
 // The fields of the eight bytes from i on.
 fn fields_at(body: &[u8], i: usize) -> Fields
     requires { ⌜ i + 8 ≤ length (now body) ⌝ }
@@ -45,9 +36,9 @@ fn fields_at(body: &[u8], i: usize) -> Fields
 {
     let op = body[i];
     let chan = body[i + 1];
-    let arg = word_of(body[i + 2], body[i + 3]);
-    let next = word_of(body[i + 4], body[i + 5]);
-    let other = word_of(body[i + 6], body[i + 7]);
+    let arg = two_of(body[i + 2], body[i + 3]);
+    let next = two_of(body[i + 4], body[i + 5]);
+    let other = two_of(body[i + 6], body[i + 7]);
     Fields {
         op: op,
         chan: chan,
@@ -127,7 +118,7 @@ pub fn capacity_in(body: &[u8], rows: u16, c: u16) -> u8
 pub fn first_row_in(body: &[u8], rows: u16, channels: u8, t: u16) -> Row
     ensures { λ r. ⌜ r ≡ firstRowIn (now (body .entry)) rows channels t ⌝ }
 {
-    Row(word_at(body, 8 * (rows as u32) + (channels as u32) + 2 * (t as u32)))
+    Row(two_at(body, 8 * (rows as u32) + (channels as u32) + 2 * (t as u32)))
 }
 
 // The fields that the table writes for a statement, kind by kind.

@@ -1,11 +1,11 @@
-// The listing program: standard input in, its listing out, line by line. What the lines are is decided in crate `listed`.
+// The listing program: standard input in, its listing out, line by line. What the lines are is decided in crate `listing_session`.
 use libc::STDIN_FILENO;
 use libc::STDOUT_FILENO;
+use listing_answer::IMAGE_ROOM;
+use listing_answer::INPUT_ROOM;
+use listing_answer::first;
 use listing_lines::Line;
-use listing_session::IMAGE_ROOM;
-use listing_session::INPUT_ROOM;
 use listing_session::begin;
-use listing_session::first;
 use listing_session::line_count;
 use listing_session::next;
 use machine::fresh_values;

@@ -1,4 +1,3 @@
-pub mod Input
-pub mod InputLaws
+pub mod Kinds
 pub mod Lines
-pub mod LinesLaws
+pub mod laws

@@ -5,15 +5,7 @@ use mathlib.Core.List.{List, [], _∷_, _++_}
 use Prim.Native.Nat.{ℕ, zero, suc, _+_, _-_, _/_, _%_, _≤_}
 use lib.Dec.{ltb}
 use lib.ListN.{length, take, drop, replicate}
-use Rattle.meaning.specs.declared.Chan.{Chan}
-use Rattle.meaning.specs.declared.Status.{Status}
-use Rattle.meaning.specs.declared.Status.the-variants.{Able, Waiting, Ended}
-use Rattle.meaning.specs.declared.Task.{Task}
-use Rattle.meaning.specs.Events.{Numbers}
-use Rattle.machine_state.specs.declared.ChanState.{ChanState}
-use Rattle.machine_state.specs.declared.TaskState.{TaskState}
-use Rattle.listing_lines.specs.declared.Line.{Line}
-use Rattle.listing_lines.specs.declared.Numbers.{Numbers as Printed}
+use Rattle.listing_lines.specs.Kinds.{Chan, Status, Able, Waiting, Ended, Task, ChanState, TaskState, Line, EventNumbers}
 
 -- A line shows its first bytes: a text, with only zeros behind it. And one line that shows more than another, by these bytes, the
 -- others kept.
@@ -59,10 +51,6 @@ abbrev pub flag : Bool → ℕ
 flag false = 0
 flag true = 1
 
--- The four numbers of an event, as the code's record of them.
-abbrev pub printed : Numbers → Printed
-printed e = record { number = e .number; channel = e .channel; value = e .value; partner = e .partner }
-
 -- "A refused text prints only `refused` number place"
 abbrev pub refusedWord : List ℕ
 refusedWord = 114 ∷ 101 ∷ 102 ∷ 117 ∷ 115 ∷ 101 ∷ 100 ∷ []
@@ -71,7 +59,7 @@ unfoldable pub refusedLine : ℕ → ℕ → List ℕ
 refusedLine number place = lineOf refusedWord (number ∷ place ∷ [])
 
 -- "Lines: pair number, task, event, channel, value, partner."
-unfoldable pub turnLine : ℕ → ℕ → Numbers → List ℕ
+unfoldable pub turnLine : ℕ → ℕ → EventNumbers → List ℕ
 turnLine pair task e = lineOf (decimalOf pair) (task ∷ e .number ∷ e .channel ∷ e .value ∷ e .partner ∷ [])
 
 -- "Then task, status .., register, ok, row."

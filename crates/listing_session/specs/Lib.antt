@@ -1,4 +1,4 @@
-pub mod Listed
-pub mod Places
-pub mod Whole
-pub mod Examples
+pub mod Kinds
+pub mod Session
+pub mod Listing
+pub mod laws

@@ -1,41 +1,31 @@
-// A listing, line by line: document 01, 'A listing, whole'. An input is judged first, in the order of the answers: too long, a
-// refused text, a bad schedule. Each of these is a listing of one line; any other has a line for each turn, each task, each
+// A listing, line by line: document 01, 'A listing, whole'. An input that is too long, a refused text or a bad schedule is a listing
+// of one line; any other has a line for each turn, each task, each
 // channel and the stamp. Whoever lists an input asks for line after line and writes it, or compares it, and keeps nothing else.
-// `listed-whole` in specs/Whole.antt says that these lines, one behind the other, are the listing of document 01.
+// `listed-whole` in specs/laws/Whole.antt says that these lines, one behind the other, are the listing of document 01.
 ghost use mathlib.Core.Path.{_≡_};
-ghost use Prim.Native.Nat.{_%_};
-ghost use lib.ListN.{length, take, drop};
-ghost use Rattle.machine_state.specs.declared.Change.the-variants.{Keep};
+ghost use Rattle.listing_session.specs.Kinds.{Keep};
 ghost use Rattle.listing_lines.specs.Lines.{Shows};
-ghost use Rattle.listing_session.specs.Listed.{scheduled, answered, imageAfter, imageLength, pairCount, begunAs, begun, lineCount, stateLine, turnOf, turnedLine, turnedSession, runLine, runSession, runChange, lineOf, sessionOf, changeOf};
+ghost use Rattle.listing_answer.specs.Answer.{imageAfter};
+ghost use Rattle.listing_session.specs.Session.{imageLength, pairCount, begunAs, begun, lineCount, stateLine, turnOf, turnedLine, turnedSession, runLine, runSession, runChange, lineOf, sessionOf, changeOf};
+use listing_answer::Answer;
+use listing_answer::answer_of;
+use listing_answer::behind;
+use listing_answer::first;
+use listing_input::pair_at;
 use listing_lines::Line;
-use listing_lines::Schedule;
-use listing_lines::input::pair_at;
-use listing_lines::input::schedule;
-use listing_lines::input::split;
-use listing_lines::output::bad_schedule_line;
-use listing_lines::output::chan_line;
-use listing_lines::output::refused_line;
-use listing_lines::output::stamp_line;
-use listing_lines::output::task_line;
-use listing_lines::output::too_long_line;
-use listing_lines::output::turn_line;
+use listing_lines::bad_schedule_line;
+use listing_lines::chan_line;
+use listing_lines::refused_line;
+use listing_lines::stamp_line;
+use listing_lines::task_line;
+use listing_lines::too_long_line;
+use listing_lines::turn_line;
 use machine::start;
 use machine::turn;
-use meaning::Chan;
-use meaning::Task;
 use machine_state::Change;
 use machine_state::State;
-use translate::Translated;
-use translate::translate;
-
-// What an input comes to: one of the three lines that stand alone, or a run.
-pub enum Answer {
-    TooLong,
-    Refused(u8, u16), // number, place
-    BadSchedule,
-    Runs(usize, u16, usize), // the image's length, the pairs, where the schedule begins
-}
+use meaning::Chan;
+use meaning::Task;
 
 // How far a listing has come: the answer, the place of the next pair in the schedule, and the machine. The values stand beside
 // it.
@@ -50,73 +40,6 @@ pub struct Listed {
     pub line: Line,
     pub session: Session,
     pub change: Change,
-}
-
-const INPUT_LIMIT: usize = 48000;
-
-// Room for an input and one byte more, by which one that is too long is noticed; and for the largest image, of 1,024 rows, 16
-// channels and 16 tasks.
-pub const INPUT_ROOM: usize = 48001;
-
-pub const IMAGE_ROOM: usize = 8248;
-
-// PARTS
-
-// The first n bytes: all of a slice that is shorter.
-pub fn first(s: &[u8], n: usize) -> &[u8]
-    ensures { λ r. ⌜ now r ≡ take n (now (s .entry)) ⌝ }
-{
-    if s.len() < n {
-        return s;
-    }
-    &s[..n]
-}
-
-// What stands from place n on: nothing of a slice that is shorter.
-pub fn behind(s: &[u8], n: usize) -> &[u8]
-    ensures { λ r. ⌜ now r ≡ drop n (now (s .entry)) ⌝ }
-{
-    let end = s.len();
-    if end < n {
-        return &s[end..];
-    }
-    &s[n..]
-}
-
-// THE ANSWER
-
-// A place, or a number of pairs, in two bytes. Neither is over 48,000, so that the remainder changes nothing (specs/Whole.antt).
-fn narrow(n: usize) -> u16
-    ensures { λ r. ⌜ r ≡ n % 65536 ⌝ }
-{
-    (n % 65536) as u16
-}
-
-fn scheduled_as(length: usize, rest: usize, given: Schedule) -> Answer
-    ensures { λ r. ⌜ r ≡ scheduled length rest given ⌝ }
-{
-    match given {
-        Schedule::Bad => Answer::BadSchedule,
-        Schedule::Pairs(n) => Answer::Runs(length, narrow(n), rest),
-    }
-}
-
-// What an input comes to. The image of an accepted text then stands at the buffer's start.
-fn answer_of(input: &[u8], image: &mut [u8]) -> Answer
-    ensures { λ r. ⌜ (r ≡ answered (now (input .entry)) (length (now (image .entry)))) × (now (image .exit) ≡ imageAfter (now (input .entry)) (now (image .entry))) ⌝ }
-{
-    if INPUT_LIMIT < input.len() {
-        return Answer::TooLong;
-    }
-    let parts = split(input);
-    let translated = translate(first(input, parts.text), image);
-    match translated {
-        Translated::Refused(number, place) => Answer::Refused(number, narrow(place)),
-        Translated::Image(n) => {
-            let given = schedule(behind(input, parts.rest));
-            scheduled_as(n, parts.rest, given)
-        }
-    }
 }
 
 // BEGINNING

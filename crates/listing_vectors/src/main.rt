@@ -3,12 +3,12 @@
 ghost use Prim.Native.Nat.{_+_, _≤_};
 ghost use lib.ListN.{length};
 use libc::STDOUT_FILENO;
+use listing_answer::IMAGE_ROOM;
+use listing_answer::INPUT_ROOM;
+use listing_answer::behind;
+use listing_answer::first;
 use listing_lines::Line;
-use listing_session::IMAGE_ROOM;
-use listing_session::INPUT_ROOM;
 use listing_session::begin;
-use listing_session::behind;
-use listing_session::first;
 use listing_session::line_count;
 use listing_session::next;
 use machine::fresh_values;

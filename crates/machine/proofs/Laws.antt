@@ -1,5 +1,5 @@
 -- Laws that the proofs of this crate cite. Assumes nothing.
-use mathlib.Core.Path.{_≡_, refl, ap, _∙_}
+use mathlib.Core.Path.{_≡_, ap, _∙_}
 use mathlib.Core.List.{List, [], _∷_, _++_}
 use Prim.Native.Nat.{ℕ, zero, suc, _+_, _<_}
 use native.Mathlib.Nat.{add-zero, zero-add, le-of-suc-le-suc, not-suc-le-zero}
@@ -13,23 +13,24 @@ use denote.Laws.{Is}
 use denote.Shadow.{shadow}
 use denote.Plain.{UInt}
 use denote.Array.{Array, each}
-use Rattle.meaning.specs.Bytes.{listed}
-use Rattle.meaning_laws.specs.Whole.{length-listed}
-use Rattle.machine_state.specs.Cells.{over, over-snoc-at}
+use Rattle.meaning.specs.Bytes.{tabulate}
+use Rattle.image_laws.specs.laws.Whole.{length-tabulate}
+use Rattle.machine_state.specs.laws.Cells.{over-snoc-at}
+use Rattle.machine_state.specs.Cells.{over}
 
 module _ {A : Type 0} (f : ℕ → A) where
-  listed-snoc : (n i : ℕ) → listed f (suc n) i ≡ listed f n i ++ (f (i + n) ∷ [])
-  unfolding listed
+  listed-snoc : (n i : ℕ) → tabulate f (suc n) i ≡ tabulate f n i ++ (f (i + n) ∷ [])
+  unfolding tabulate
   listed-snoc zero i = rw add-zero
   listed-snoc (suc n) i =
       let e : suc i + n ≡ i + suc n = omega arith in
       ap (λ l. f i ∷ l) (listed-snoc n (suc i) ∙ rw e)
 
   -- One lap of a loop that fills the cells of z with f 0, f 1, ..
-  pub fill-lap : (z : List A) (n : ℕ) → n < length z → set (over (listed f n 0) z) n (f n) ≡ over (listed f (n + 1) 0) z
+  pub fill-lap : (z : List A) (n : ℕ) → n < length z → set (over (tabulate f n 0) z) n (f n) ≡ over (tabulate f (n + 1) 0) z
   fill-lap z n h =
-      let e : listed f n 0 ++ (f n ∷ []) ≡ listed f (n + 1) 0 = rw (add-one, listed-snoc n 0, zero-add) in
-      over-snoc-at (listed f n 0) z (f n) n (length-listed f n 0) h ∙ ap (λ l. over l z) e
+      let e : tabulate f n 0 ++ (f n ∷ []) ≡ tabulate f (n + 1) 0 = rw (add-one, listed-snoc n 0, zero-add) in
+      over-snoc-at (tabulate f n 0) z (f n) n (length-tabulate f n 0) h ∙ ap (λ l. over l z) e
 
 -- The rows of an array of arrays have sixteen cells each: what is known of the array says it element by element.
 abbrev CellRow : RattleType

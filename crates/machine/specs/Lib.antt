@@ -1,13 +1,5 @@
+pub mod Kinds
 pub mod View
 pub mod Public
-pub mod Capacities
-pub mod Leaves
-pub mod Who
-pub mod Link
-pub mod Stays
-pub mod Told
-pub mod Start
-pub mod Fitted
-pub mod Meant
-pub mod Reached
-pub mod Examples
+pub mod Runs
+pub mod laws

@@ -4,28 +4,19 @@ use mathlib.Core.Bool.{true, false, cond}
 use mathlib.Core.List.{List}
 use Prim.Native.Nat.{ℕ}
 use lib.ListN.{replicate}
-use Rattle.meaning.specs.declared.Task.{Task}
-use Rattle.meaning.specs.declared.Row.{Row}
-use Rattle.meaning.specs.declared.Status.the-variants.{Able}
+use Rattle.machine.specs.Kinds.{Task, Row, Able, Counts, Checked, Good, TaskState, ChanState, State, Turned, Started}
 use Rattle.meaning.specs.Numbers.{depthLimit, noFault, unfit}
 use Rattle.meaning.specs.Machine as m
 use Rattle.meaning.specs.Image.{rowNo, imageLook}
-use Rattle.meaning.specs.Bytes.{bodyOf, firstRowIn, listed, rowsOf}
-use Rattle.image_rows.specs.declared.Counts.{Counts}
+use Rattle.meaning.specs.Bytes.{bodyOf, firstRowIn, tabulate, rowsOf}
 use Rattle.image_rows.specs.Rows.{countsOf}
-use Rattle.image_check.specs.declared.Checked.{Checked}
-use Rattle.image_check.specs.declared.Checked.the-variants.{Good, Refused}
+use Rattle.image_check.specs.declared.Checked.the-variants.{Refused}
 use Rattle.image_check.specs.Check.{checked}
-use Rattle.machine_state.specs.declared.TaskState.{TaskState}
-use Rattle.machine_state.specs.declared.ChanState.{ChanState}
-use Rattle.machine_state.specs.declared.State.{State}
-use Rattle.machine_state.specs.declared.Turned.{Turned}
 use Rattle.machine_state.specs.Cells.{over}
 use Rattle.machine_state.specs.State.{Values, noTasks, noValues}
 use Rattle.machine_fit.specs.Fitting.{fitting}
 use Rattle.machine_step.specs.Step.{refusedTurn, stepped}
 use Rattle.machine.specs.View.{view, turnedOf}
-use Rattle.machine.specs.declared.Started.{Started}
 
 -- START
 
@@ -40,7 +31,7 @@ openChans = replicate 16 (record { closed = false; len = 0 })
 
 -- The records of the tasks at their first rows, the cells behind them unused.
 unfoldable pub freshTasks : List ℕ → Counts → List TaskState
-freshTasks rs k = over (listed (λ t. freshTask (firstRowIn rs (k .rows) (k .channels) t)) (k .tasks) 0) unusedTasks
+freshTasks rs k = over (tabulate (λ t. freshTask (firstRowIn rs (k .rows) (k .channels) t)) (k .tasks) 0) unusedTasks
 
 abbrev pub stateOf : List TaskState → ℕ → ℕ → State
 stateOf xs tasks channels = record { tasks = xs; chans = openChans; order = noTasks; waiting = 0; taskcount = tasks; chancount = channels; fault = noFault; named = record { 0 = 0 }; stamp = 0 }

@@ -3,7 +3,7 @@
 ghost use mathlib.Core.Path.{_≡_};
 ghost use mathlib.Core.Bool.{true};
 ghost use Prim.Native.Nat.{_≤_};
-ghost use Rattle.image_check.specs.declared.Checked.the-variants.{Good};
+ghost use Rattle.machine.specs.Kinds.{Good};
 ghost use Rattle.image_check.specs.Check.{checked};
 ghost use Rattle.machine_fit.specs.Fitting.{fitting};
 ghost use Rattle.meaning.specs.Bytes.{bodyOf, startOf};
@@ -11,17 +11,14 @@ ghost use Rattle.image_rows.specs.Rows.{countsOf};
 ghost use Rattle.machine.specs.View.{view};
 ghost use Rattle.machine.specs.Public.{freshTask, freshTasks, stateOf, startedAs, started, freshValues, turnedAfter, turned, Means};
 ghost use Rattle.machine_state.specs.State.{changed};
-use machine_fit::fits;
 use image_check::Checked;
 use image_check::check;
-use meaning::Row;
-use meaning::Status;
-use meaning::Task;
 use image_rows::Counts;
 use image_rows::bytes::body_of;
 use image_rows::bytes::counts_in;
 use image_rows::bytes::trailer_of;
 use image_rows::table::first_row_in;
+use machine_fit::fits;
 use machine_state::ChanState;
 use machine_state::Change;
 use machine_state::State;
@@ -29,6 +26,9 @@ use machine_state::TaskState;
 use machine_state::Turned;
 use machine_step::refuse;
 use machine_step::step;
+use meaning::Row;
+use meaning::Status;
+use meaning::Task;
 
 // A start's answer: the check's, and the fresh state; a state with no task where the image is refused.
 pub struct Started {

@@ -8,7 +8,7 @@ use native.Mathlib.Omega.{arith}
 use lib.Dec.{eqb}
 use lib.ListN.{length, getD, take, drop, length-take}
 use lib.Seq.{drop-cons, getD-take}
-use Rattle.meaning.specs.declared.Task.{Task}
+use Rattle.machine_fit.specs.Kinds.{Task}
 use Rattle.meaning_laws.specs.Fits.{one, times}
 use Rattle.machine_fit.specs.Fitting.{every}
 

@@ -4,21 +4,12 @@ use mathlib.Core.List.{List}
 use Prim.Native.Nat.{ℕ, zero, suc, _%_}
 use lib.Dec.{eqb, leb, ltb}
 use lib.ListN.{getD}
-use Rattle.meaning.specs.declared.Task.{Task}
-use Rattle.meaning.specs.declared.Otherwise.{Otherwise}
-use Rattle.meaning.specs.declared.Otherwise.the-variants.{Wait, Go}
-use Rattle.meaning.specs.declared.Statement.{Statement}
-use Rattle.meaning.specs.declared.Statement.the-variants.{Do, Close, Range, Repeat, Ifok, Select, Case, Stop}
-use Rattle.meaning.specs.declared.Status.{Status}
-use Rattle.meaning.specs.declared.Status.the-variants.{Able, Waiting, Ended}
+use Rattle.machine_fit.specs.Kinds.{Task, Otherwise, Wait, Go, Statement, Do, Close, Range, Repeat, Ifok, Select, Case, Stop, Status, Able, Waiting, Ended, Counts, TaskState, State}
 use Rattle.meaning.specs.Numbers.{taskLimit, closeUnderSender}
 use Rattle.meaning.specs.Bytes.{rowsIn, capacityIn}
-use Rattle.image_rows.specs.declared.Counts.{Counts}
 use Rattle.image_check.specs.Check.{isTarget}
 use Rattle.meaning_laws.specs.Fits.{times, mark}
-use Rattle.machine_state.specs.declared.TaskState.{TaskState}
-use Rattle.machine_state.specs.declared.State.{State}
-use Rattle.machine_state.specs.State.{noTask, noChan, orderOf}
+use Rattle.machine_state.specs.State.{blankTask, blankChan, orderOf}
 
 -- The n numbers from i on all pass.
 unfoldable pub every : (ℕ → Bool) → ℕ → ℕ → Bool
@@ -60,11 +51,11 @@ module _ (rs : List ℕ) (k : Counts) (s : State) where
   recordFits x i = isTarget rs (k .rows) (x .row) && (eqb (times (taskNo i) (orderOf s)) (mark (x .status)) && placeFits (x .status) (rowsIn rs (x .row)))
 
   unfoldable pub taskFits : ℕ → Bool
-  taskFits i = recordFits (getD (s .tasks) (i % 16) noTask) i
+  taskFits i = recordFits (getD (s .tasks) (i % 16) blankTask) i
 
   -- "each length is at most its capacity"
   unfoldable pub lengthFits : ℕ → Bool
-  lengthFits c = leb (getD (s .chans) (c % 16) noChan .len) (capacityIn rs (k .rows) c)
+  lengthFits c = leb (getD (s .chans) (c % 16) blankChan .len) (capacityIn rs (k .rows) c)
 
   -- "its task and channel counts are the image's, .. the fault is 0 to 4"
   unfoldable pub fitting : Bool

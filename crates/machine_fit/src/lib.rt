@@ -5,14 +5,14 @@ ghost use Rattle.machine_fit.specs.Fitting.{every, noDefault, canWait, p
 ghost use Rattle.meaning_laws.specs.Fits.{times, mark};
 ghost use Rattle.machine_state.specs.State.{orderOf};
 use image_check::row::is_target;
-use meaning::Otherwise;
-use meaning::Statement;
-use meaning::Status;
 use image_rows::Counts;
 use image_rows::table::capacity_in;
 use image_rows::table::statement_at;
 use machine_state::State;
 use machine_state::TaskState;
+use meaning::Otherwise;
+use meaning::Statement;
+use meaning::Status;
 
 fn no_default(e: Otherwise) -> bool
     ensures { λ r. ⌜ r ≡ noDefault e ⌝ }

@@ -1,19 +1,8 @@
 -- The plans of the rules, one for each thing a turn can do.
 use mathlib.Core.Bool.{true, false}
 use Prim.Native.Nat.{ℕ, _+_, _-_, _%_}
-use Rattle.meaning.specs.declared.Task.{Task}
-use Rattle.meaning.specs.declared.Chan.{Chan}
-use Rattle.meaning.specs.declared.Row.{Row}
-use Rattle.meaning.specs.declared.Port.{Port}
-use Rattle.meaning.specs.declared.Op.{Op}
-use Rattle.meaning.specs.declared.Status.the-variants.{Waiting, Ended}
-use Rattle.meaning.specs.declared.Event.the-variants.{Appended, Handed, Taken, Refilled, Received, Drained, Closed, Waits, Branched, Finished, Faulted}
+use Rattle.machine_plans.specs.Kinds.{Task, Chan, Row, Port, Op, Waiting, Ended, Appended, Handed, Taken, Refilled, Received, Drained, Closed, Waits, Branched, Finished, Faulted, TaskState, ChanState, State, Keep, Append, Take, Refill, Plan}
 use Rattle.meaning.specs.Machine.{payload}
-use Rattle.machine_state.specs.declared.TaskState.{TaskState}
-use Rattle.machine_state.specs.declared.ChanState.{ChanState}
-use Rattle.machine_state.specs.declared.State.{State}
-use Rattle.machine_state.specs.declared.Change.the-variants.{Keep, Append, Take, Refill}
-use Rattle.machine_state.specs.declared.Plan.{Plan}
 use Rattle.machine_state.specs.State.{taskIn, gotTask, wentTask, stoodTask, quietPlan, wakingPlan, storingPlan, joiningPlan, haltingPlan}
 
 -- PLANS: the mover `me` stands as x in the state s.

@@ -3,13 +3,6 @@ ghost use mathlib.Core.Path.{_≡_};
 ghost use Prim.Native.Nat.{_<_};
 ghost use Rattle.machine_plans.specs.Plans.{failPlan, waitPlan, branchPlan, endPlan, handBy, appendPlan, takePlan, refillBy, receiveBy, drainPlan, shutPlan};
 ghost use Rattle.meaning.specs.Machine.{payload};
-use meaning::Chan;
-use meaning::Event;
-use meaning::Op;
-use meaning::Port;
-use meaning::Row;
-use meaning::Status;
-use meaning::Task;
 use machine_state::ChanState;
 use machine_state::Change;
 use machine_state::Plan;
@@ -23,6 +16,13 @@ use machine_state::stood;
 use machine_state::storing;
 use machine_state::waking;
 use machine_state::went;
+use meaning::Chan;
+use meaning::Event;
+use meaning::Op;
+use meaning::Port;
+use meaning::Row;
+use meaning::Status;
+use meaning::Task;
 
 pub fn fail(s: State, me: Task, x: TaskState, f: u8, p: Port) -> Plan
     ensures { λ r. ⌜ r ≡ failPlan s me x f p ⌝ }

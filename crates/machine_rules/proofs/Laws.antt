@@ -7,25 +7,13 @@ use native.Mathlib.Numerals.{add-one}
 use native.Mathlib.Omega.{arith}
 use lib.ListN.{length, getD, take, drop, length-take}
 use lib.Seq.{drop-cons, getD-take}
-use Rattle.meaning.specs.declared.Task.{Task}
-use Rattle.meaning.specs.declared.Chan.{Chan}
-use Rattle.meaning.specs.declared.Row.{Row}
-use Rattle.meaning.specs.declared.Op.{Op}
-use Rattle.meaning.specs.declared.Op.the-variants.{Send, Forward, Recv}
-use Rattle.meaning.specs.declared.Port.the-variants.{On}
-use Rattle.meaning.specs.declared.Event.the-variants.{Closed}
+use Rattle.machine_rules.specs.Kinds.{Task, Chan, Row, Op, Send, Forward, Recv, On, Closed, TaskState, ChanState, State, Turned, Receiving, Offer, Nothing}
 use Rattle.meaning.specs.Numbers.{closeUnderSender}
 use Rattle.meaning.specs.Image.{rowNo}
-use Rattle.meaning.specs.Bytes.{rowsIn, listed}
-use Rattle.machine_state.specs.declared.TaskState.{TaskState}
-use Rattle.machine_state.specs.declared.ChanState.{ChanState}
-use Rattle.machine_state.specs.declared.State.{State}
-use Rattle.machine_state.specs.declared.Turned.{Turned}
-use Rattle.machine_state.specs.Cells.{consIf, keep, keep-length}
+use Rattle.meaning.specs.Bytes.{rowsIn, tabulate}
+use Rattle.machine_state.specs.laws.Cells.{keep-length}
+use Rattle.machine_state.specs.Cells.{consIf, keep}
 use Rattle.machine_state.specs.State.{Values, orderOf, applied}
-use Rattle.machine_waiters.specs.declared.Side.the-variants.{Receiving}
-use Rattle.machine_waiters.specs.declared.Offer.{Offer}
-use Rattle.machine_waiters.specs.declared.Offer.the-variants.{Nothing}
 use Rattle.machine_waiters.specs.Waiters.{caseOffer, isOffer, waitsAt, countOf, countWaiters, one}
 use Rattle.machine_rules.specs.Rules.{idle, wokenAll, wokenBy, wokenTasks, withEvent, closeOn, exchangeOf, exchanged, attempt, chosenOf}
 use Rattle.machine_plans.specs.Plans.{failPlan, shutPlan}
@@ -80,8 +68,8 @@ woken-step rs s c o n i d xs h k =
 
 -- SELECT
 
-listed-step : (k i n : ℕ) → i < k → listed (λ j. j) (k - i) (n + i) ≡ (n + i) ∷ listed (λ j. j) (k - (i + 1)) (n + (i + 1))
-unfolding listed
+listed-step : (k i n : ℕ) → i < k → tabulate (λ j. j) (k - i) (n + i) ≡ (n + i) ∷ tabulate (λ j. j) (k - (i + 1)) (n + (i + 1))
+unfolding tabulate
 listed-step k i n h =
     let e : k - i ≡ suc (k - (i + 1)) = omega arith in
     let j : n + (i + 1) ≡ suc (n + i) = omega arith in
@@ -89,20 +77,20 @@ listed-step k i n h =
 
 -- What is kept of the rows from row n + i on, with row n + i kept or not.
 module _ (p : ℕ → Bool) (k i n : ℕ) (h : i < k) where
-  pub kept-count : (b : Bool) → p (n + i) ≡ b → length (keep p (listed (λ j. j) (k - i) (n + i))) ≡ one b + length (keep p (listed (λ j. j) (k - (i + 1)) (n + (i + 1))))
+  pub kept-count : (b : Bool) → p (n + i) ≡ b → length (keep p (tabulate (λ j. j) (k - i) (n + i))) ≡ one b + length (keep p (tabulate (λ j. j) (k - (i + 1)) (n + (i + 1))))
   kept-count true e = rw (listed-step k i n h, e) (omega arith)
   kept-count false e = rw (listed-step k i n h, e) (omega arith)
 
-  pub kept-here : (j : ℕ) → p (n + i) ≡ true → j ≡ 0 → getD (keep p (listed (λ j. j) (k - i) (n + i))) j 0 ≡ n + i
+  pub kept-here : (j : ℕ) → p (n + i) ≡ true → j ≡ 0 → getD (keep p (tabulate (λ j. j) (k - i) (n + i))) j 0 ≡ n + i
   kept-here j e z = rw (listed-step k i n h, e, z)
 
-  pub kept-next : (j : ℕ) → p (n + i) ≡ true → (j ≡ 0 → ⊥) → getD (keep p (listed (λ j. j) (k - i) (n + i))) j 0 ≡ getD (keep p (listed (λ j. j) (k - (i + 1)) (n + (i + 1)))) (j - 1) 0
+  pub kept-next : (j : ℕ) → p (n + i) ≡ true → (j ≡ 0 → ⊥) → getD (keep p (tabulate (λ j. j) (k - i) (n + i))) j 0 ≡ getD (keep p (tabulate (λ j. j) (k - (i + 1)) (n + (i + 1)))) (j - 1) 0
   kept-next zero e z = absurd (z refl)
   kept-next (suc j) e z =
       let q : suc j - 1 ≡ j = omega arith in
       rw (listed-step k i n h, e, q)
 
-  pub kept-past : (j : ℕ) → p (n + i) ≡ false → getD (keep p (listed (λ j. j) (k - i) (n + i))) j 0 ≡ getD (keep p (listed (λ j. j) (k - (i + 1)) (n + (i + 1)))) j 0
+  pub kept-past : (j : ℕ) → p (n + i) ≡ false → getD (keep p (tabulate (λ j. j) (k - i) (n + i))) j 0 ≡ getD (keep p (tabulate (λ j. j) (k - (i + 1)) (n + (i + 1)))) j 0
   kept-past j e = rw (listed-step k i n h, e)
 
 -- The case taken, by the number of ready ones.

@@ -6,34 +6,13 @@ use mathlib.Core.List.{List, [], _∷_}
 use Prim.Native.Nat.{ℕ, zero, suc, _+_, _%_}
 use lib.Dec.{ltb}
 use lib.ListN.{length, getD, set}
-use Rattle.meaning.specs.declared.Task.{Task}
-use Rattle.meaning.specs.declared.Chan.{Chan}
-use Rattle.meaning.specs.declared.Row.{Row}
-use Rattle.meaning.specs.declared.Port.{Port}
-use Rattle.meaning.specs.declared.Port.the-variants.{Nil, On}
-use Rattle.meaning.specs.declared.Op.{Op}
-use Rattle.meaning.specs.declared.Op.the-variants.{Send, Forward, Recv}
-use Rattle.meaning.specs.declared.Event.{Event}
-use Rattle.meaning.specs.declared.Otherwise.{Otherwise}
-use Rattle.meaning.specs.declared.Otherwise.the-variants.{Wait, Go}
+use Rattle.machine_rules.specs.Kinds.{Task, Chan, Row, Port, Nil, On, Op, Send, Forward, Recv, Event, Otherwise, Wait, Go, TaskState, ChanState, State, Plan, Turned, Receiving, Sending, Offer, Nothing, By, Found, Nobody, At, Exchange, Gives, Gets}
 use Rattle.meaning.specs.Numbers.{sendOnClosed, closeOfNil, closeOfClosed, closeUnderSender}
 use Rattle.meaning.specs.Image.{rowNo}
-use Rattle.meaning.specs.Bytes.{rowsIn, capacityIn, listed}
-use Rattle.machine_state.specs.declared.TaskState.{TaskState}
-use Rattle.machine_state.specs.declared.ChanState.{ChanState}
-use Rattle.machine_state.specs.declared.State.{State}
-use Rattle.machine_state.specs.declared.Plan.{Plan}
-use Rattle.machine_state.specs.declared.Turned.{Turned}
+use Rattle.meaning.specs.Bytes.{rowsIn, capacityIn, tabulate}
 use Rattle.machine_state.specs.Cells.{over, keep}
 use Rattle.machine_state.specs.State.{Values, oldest, taskIn, chanIn, orderOf, gotTask, applied, noTasks}
-use Rattle.machine_waiters.specs.declared.Side.the-variants.{Receiving, Sending}
-use Rattle.machine_waiters.specs.declared.Offer.{Offer}
-use Rattle.machine_waiters.specs.declared.Offer.the-variants.{Nothing, By}
-use Rattle.machine_waiters.specs.declared.Found.{Found}
-use Rattle.machine_waiters.specs.declared.Found.the-variants.{Nobody, At}
 use Rattle.machine_waiters.specs.Waiters.{caseOffer, isOffer, waitsAt, firstWaiter, countWaiters}
-use Rattle.machine_rules.specs.declared.Exchange.{Exchange}
-use Rattle.machine_rules.specs.declared.Exchange.the-variants.{Gives, Gets}
 use Rattle.machine_plans.specs.Plans.{branchPlan, failPlan, waitPlan, handPlan, appendPlan, takePlan, refillPlan, receivePlan, drainPlan, shutPlan}
 
 -- WHAT A RULE ASKS: the mover `me` stands as x in the state s.
@@ -179,7 +158,7 @@ module _ (rs : List ℕ) (rows : ℕ) (s : State) where
 
   -- The rows of the ready cases among k case rows from row i on.
   unfoldable pub readyRows : ℕ → ℕ → List ℕ
-  readyRows k i = keep rowReady (listed (λ n. n) k i)
+  readyRows k i = keep rowReady (tabulate (λ n. n) k i)
 
   -- The case that is taken, by the rows of the ready cases and the choice.
   abbrev pub chosenOf : List ℕ → ℕ → Offer

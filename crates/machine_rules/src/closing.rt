@@ -1,14 +1,9 @@
 // Close: the one turn that can wake more than one task.
 ghost use mathlib.Core.Path.{_≡_};
 ghost use mathlib.Core.Bool.{false};
-ghost use Rattle.machine_waiters.specs.declared.Side.the-variants.{Receiving, Sending};
+ghost use Rattle.machine_rules.specs.Kinds.{Receiving, Sending};
 ghost use Rattle.machine_waiters.specs.Waiters.{countWaiters};
 ghost use Rattle.machine_rules.specs.Rules.{wokenAll, withEvent, closeOn, closesOn, closePort};
-use meaning::Chan;
-use meaning::Event;
-use meaning::Port;
-use meaning::Row;
-use meaning::Task;
 use machine_plans::fail;
 use machine_plans::shut;
 use machine_state::ChanState;
@@ -21,6 +16,11 @@ use machine_waiters::Offer;
 use machine_waiters::Side;
 use machine_waiters::count_waiters;
 use machine_waiters::matched_at;
+use meaning::Chan;
+use meaning::Event;
+use meaning::Port;
+use meaning::Row;
+use meaning::Task;
 
 // All tasks that waited in s to receive on c wake, in order, with 0, ok off, and leave the order: one walk over it.
 fn wake_all(body: &[u8], s: State, c: Chan, mut t: Turned) -> Turned

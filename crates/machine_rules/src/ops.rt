@@ -3,15 +3,11 @@ ghost use mathlib.Core.Path.{_≡_};
 ghost use mathlib.Core.Bool.{true, false};
 ghost use Prim.Native.Nat.{_<_};
 ghost use lib.Dec.{ltb};
-ghost use Rattle.machine_waiters.specs.declared.Found.the-variants.{Nobody};
+ghost use Rattle.machine_rules.specs.Kinds.{Nobody};
 ghost use Rattle.machine_waiters.specs.Waiters.{recordOf};
 ghost use Rattle.machine_rules.specs.Rules.{orWait, sendOn, sendsOn, sendTo, receiveOn, receivesOn, receiveFrom, exchangeOf, exchanged, attempt};
 use crate::Exchange;
-use meaning::Chan;
-use meaning::Op;
-use meaning::Port;
-use meaning::Row;
-use meaning::Task;
+use image_rows::table::capacity_in;
 use machine_plans::append;
 use machine_plans::drain;
 use machine_plans::fail;
@@ -20,7 +16,6 @@ use machine_plans::receive;
 use machine_plans::refill;
 use machine_plans::take;
 use machine_plans::wait;
-use image_rows::table::capacity_in;
 use machine_state::ChanState;
 use machine_state::Plan;
 use machine_state::State;
@@ -29,6 +24,11 @@ use machine_state::values::oldest_in;
 use machine_waiters::Found;
 use machine_waiters::Side;
 use machine_waiters::first_waiter;
+use meaning::Chan;
+use meaning::Op;
+use meaning::Port;
+use meaning::Row;
+use meaning::Task;
 
 // Nobody waits to receive: into the buffer where there is room.
 fn send_in(

@@ -5,19 +5,13 @@ ghost use Prim.Native.Nat.{_+_, _<_};
 ghost use lib.Dec.{ltb};
 ghost use lib.ListN.{length, getD};
 ghost use Rattle.machine_state.specs.State.{chanIn};
-ghost use Rattle.machine_waiters.specs.declared.Side.the-variants.{Receiving, Sending};
+ghost use Rattle.machine_rules.specs.Kinds.{Receiving, Sending};
 ghost use Rattle.machine_waiters.specs.Waiters.{firstWaiter};
 ghost use Rattle.machine_rules.specs.Rules.{hasRoom, canSend, canReceive, sendReady, receiveReady, opReady, offerReady, rowReady, readyRows, noCase, chosenCase};
-use meaning::Chan;
-use meaning::Op;
-use meaning::Otherwise;
-use meaning::Port;
-use meaning::Row;
-use meaning::Task;
-use machine_plans::branch;
-use machine_plans::wait;
 use image_rows::table::capacity_in;
 use image_rows::table::statement_at;
+use machine_plans::branch;
+use machine_plans::wait;
 use machine_state::Plan;
 use machine_state::State;
 use machine_state::TaskState;
@@ -26,6 +20,12 @@ use machine_waiters::Offer;
 use machine_waiters::Side;
 use machine_waiters::case_offer;
 use machine_waiters::first_waiter;
+use meaning::Chan;
+use meaning::Op;
+use meaning::Otherwise;
+use meaning::Port;
+use meaning::Row;
+use meaning::Task;
 
 fn can_give(f: Found, room: bool) -> bool
     ensures { λ r. ⌜ r ≡ canSend false f room ⌝ }

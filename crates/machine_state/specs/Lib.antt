@@ -1,2 +1,4 @@
+pub mod Kinds
 pub mod Cells
 pub mod State
+pub mod laws

@@ -5,38 +5,23 @@ use mathlib.Core.List.{List, []}
 use Prim.Native.Nat.{ℕ, _+_, _-_, _%_}
 use lib.Dec.{eqb}
 use lib.ListN.{length, getD, set, take, drop, replicate}
-use Rattle.meaning.specs.declared.Task.{Task}
-use Rattle.meaning.specs.declared.Chan.{Chan}
-use Rattle.meaning.specs.declared.Row.{Row}
-use Rattle.meaning.specs.declared.Status.{Status}
-use Rattle.meaning.specs.declared.Status.the-variants.{Able}
-use Rattle.meaning.specs.declared.Event.{Event}
+use Rattle.machine_state.specs.Kinds.{Task, Chan, Row, Status, Able, Event, TaskState, ChanState, State, Change, Keep, Append, Take, Refill, Queue, Stay, Join, Leave, Plan, Turned, Order}
 use Rattle.meaning.specs.Numbers.{stampModulus}
 use Rattle.machine_state.specs.Cells.{over, keep}
-use Rattle.machine_state.specs.declared.TaskState.{TaskState}
-use Rattle.machine_state.specs.declared.ChanState.{ChanState}
-use Rattle.machine_state.specs.declared.State.{State}
-use Rattle.machine_state.specs.declared.Change.{Change}
-use Rattle.machine_state.specs.declared.Change.the-variants.{Keep, Append, Take, Refill}
-use Rattle.machine_state.specs.declared.Queue.{Queue}
-use Rattle.machine_state.specs.declared.Queue.the-variants.{Stay, Join, Leave}
-use Rattle.machine_state.specs.declared.Plan.{Plan}
-use Rattle.machine_state.specs.declared.Turned.{Turned}
-use Rattle.machine_state.specs.declared.Line.{Line}
 
 -- READING
 
-abbrev pub noTask : TaskState
-noTask = record { status = Able; ok = false; register = 0; row = record { 0 = 0 }; laps = [] }
+abbrev pub blankTask : TaskState
+blankTask = record { status = Able; ok = false; register = 0; row = record { 0 = 0 }; laps = [] }
 
-abbrev pub noChan : ChanState
-noChan = record { closed = false; len = 0 }
+abbrev pub blankChan : ChanState
+blankChan = record { closed = false; len = 0 }
 
 abbrev pub taskIn : List TaskState → Task → TaskState
-taskIn xs t = getD xs (t .0 % 16) noTask
+taskIn xs t = getD xs (t .0 % 16) blankTask
 
 abbrev pub chanIn : List ChanState → Chan → ChanState
-chanIn cs c = getD cs (c .0 % 16) noChan
+chanIn cs c = getD cs (c .0 % 16) blankChan
 
 abbrev pub lapOf : TaskState → ℕ → ℕ
 lapOf x d = getD (x .laps) (d % 6) 0
@@ -87,16 +72,16 @@ noTasks = replicate 16 (record { 0 = 0 })
 abbrev pub noValues : List ℕ
 noValues = replicate 16 0
 
-abbrev pub Line·of : List Task → Line
-Line·of ts = record { order = over ts noTasks; n = length ts }
+abbrev pub Order·of : List Task → Order
+Order·of ts = record { order = over ts noTasks; n = length ts }
 
-abbrev pub joinedLine : List Task → ℕ → Task → Line
-joinedLine o n me = record { order = set o (n % 16) me; n = n % 16 + 1 }
+abbrev pub joinedOrder : List Task → ℕ → Task → Order
+joinedOrder o n me = record { order = set o (n % 16) me; n = n % 16 + 1 }
 
-unfoldable pub lineAfter : List Task → ℕ → Task → Queue → Line
-lineAfter o n me Stay = record { order = o; n = n }
-lineAfter o n me Join = joinedLine o n me
-lineAfter o n me (Leave t) = Line·of (keep (other t) (take (n % 17) o))
+unfoldable pub orderAfter : List Task → ℕ → Task → Queue → Order
+orderAfter o n me Stay = record { order = o; n = n }
+orderAfter o n me Join = joinedOrder o n me
+orderAfter o n me (Leave t) = Order·of (keep (other t) (take (n % 17) o))
 
 -- APPLYING A PLAN
 
@@ -105,8 +90,8 @@ abbrev pub plannedWith : State → List TaskState → Task → Plan → State
 plannedWith s xs me p = record {
   tasks = xs;
   chans = set (s .chans) (p .chan .0 % 16) (p .channel);
-  order = lineAfter (s .order) (s .waiting) me (p .queue) .order;
-  waiting = lineAfter (s .order) (s .waiting) me (p .queue) .n;
+  order = orderAfter (s .order) (s .waiting) me (p .queue) .order;
+  waiting = orderAfter (s .order) (s .waiting) me (p .queue) .n;
   taskcount = s .taskcount;
   chancount = s .chancount;
   fault = p .fault;

@@ -5,7 +5,7 @@ ghost use mathlib.Core.Path.{_≡_};
 ghost use Prim.Native.Nat.{_≤_};
 ghost use lib.ListN.{take};
 ghost use Rattle.machine_state.specs.Cells.{keep};
-ghost use Rattle.machine_state.specs.State.{gotTask, wentTask, stoodTask, lapTask, lapOf, chanIn, Line·of, other, joinedLine, lineAfter, settled, applied, quietPlan, wakingPlan, storingPlan, joiningPlan, haltingPlan};
+ghost use Rattle.machine_state.specs.State.{gotTask, wentTask, stoodTask, lapTask, lapOf, chanIn, Order·of, other, joinedOrder, orderAfter, settled, applied, quietPlan, wakingPlan, storingPlan, joiningPlan, haltingPlan};
 
 pub mod values;
 
@@ -84,7 +84,7 @@ pub struct Turned {
 }
 
 // The waiting order alone.
-pub struct Line {
+pub struct Order {
     pub order: [Task; 16],
     pub n: u8,
 }
@@ -292,9 +292,9 @@ pub fn halting(p: Plan, fault: u8, named: Task) -> Plan
 // APPLYING A PLAN
 
 // The first n tasks of an order without t, the cells behind them 0.
-fn without(order: [Task; 16], n: u8, t: Task) -> Line
+fn without(order: [Task; 16], n: u8, t: Task) -> Order
     requires { ⌜ n ≤ 16 ⌝ }
-    ensures { λ r. ⌜ r ≡ Line·of (keep (other t) (take n order)) ⌝ }
+    ensures { λ r. ⌜ r ≡ Order·of (keep (other t) (take n order)) ⌝ }
 {
     let mut kept = [Task(0); 16];
     let mut w: u8 = 0;
@@ -309,26 +309,26 @@ fn without(order: [Task; 16], n: u8, t: Task) -> Line
             w = w + 1;
         }
     }
-    Line { order: kept, n: w }
+    Order { order: kept, n: w }
 }
 
-fn joined(mut order: [Task; 16], n: u8, me: Task) -> Line
-    ensures { λ r. ⌜ r ≡ joinedLine order n me ⌝ }
+fn joined(mut order: [Task; 16], n: u8, me: Task) -> Order
+    ensures { λ r. ⌜ r ≡ joinedOrder order n me ⌝ }
 {
     let w = n % 16;
     let to = w as usize;
     order[to] = me;
-    Line {
+    Order {
         order: order,
         n: w + 1,
     }
 }
 
-fn line_after(order: [Task; 16], n: u8, me: Task, queue: Queue) -> Line
-    ensures { λ r. ⌜ r ≡ lineAfter order n me queue ⌝ }
+fn order_after(order: [Task; 16], n: u8, me: Task, queue: Queue) -> Order
+    ensures { λ r. ⌜ r ≡ orderAfter order n me queue ⌝ }
 {
     match queue {
-        Queue::Stay => Line { order: order, n: n },
+        Queue::Stay => Order { order: order, n: n },
         Queue::Join => joined(order, n, me),
         Queue::Leave(t) => without(order, n % 17, t),
     }
@@ -345,7 +345,7 @@ pub fn settle(s: State, tasks: [TaskState; 16], me: Task, p: Plan) -> Turned
     chans[k] = channel;
     let order = s.order;
     let queue = p.queue;
-    let line = line_after(order, s.waiting, me, queue);
+    let line = order_after(order, s.waiting, me, queue);
     let after = line.order;
     let named = p.named;
     let stamp = s.stamp;

@@ -7,27 +7,14 @@ use native.Mathlib.Nat.{le-of-suc-le-suc, not-suc-le-zero, mod-lt}
 use native.Mathlib.Omega.{arith}
 use lib.Dec.{eqb, ltb}
 use lib.ListN.{length, getD}
-use Rattle.meaning.specs.declared.Task.{Task}
-use Rattle.meaning.specs.declared.Row.{Row}
-use Rattle.meaning.specs.declared.Port.{Port}
-use Rattle.meaning.specs.declared.Otherwise.{Otherwise}
-use Rattle.meaning.specs.declared.Statement.{Statement}
-use Rattle.meaning.specs.declared.Statement.the-variants.{Do, Close, Range, Repeat, Ifok, Select, Case, Stop}
-use Rattle.meaning.specs.declared.Status.{Status}
-use Rattle.meaning.specs.declared.Status.the-variants.{Able, Waiting, Ended}
+use Rattle.machine_step.specs.Kinds.{Task, Row, Port, Otherwise, Statement, Do, Close, Range, Repeat, Ifok, Select, Case, Stop, Status, Able, Waiting, Ended, TaskState, State, Plan, Offer, Nothing, By, Not, Of}
 use Rattle.meaning.specs.Numbers.{noFault, noSuchTask, halted}
 use Rattle.meaning.specs.Image.{rowNo}
-use Rattle.meaning.specs.Bytes.{rowsIn, listed}
-use Rattle.machine_state.specs.declared.TaskState.{TaskState}
-use Rattle.machine_state.specs.declared.State.{State}
-use Rattle.machine_state.specs.declared.Plan.{Plan}
+use Rattle.meaning.specs.Bytes.{rowsIn, tabulate}
 use Rattle.machine_state.specs.Cells.{consIf, keep}
 use Rattle.machine_state.specs.State.{Values, taskIn, applied}
-use Rattle.machine_waiters.specs.declared.Offer.{Offer}
-use Rattle.machine_waiters.specs.declared.Offer.the-variants.{Nothing, By}
 use Rattle.machine_waiters.specs.Waiters.{caseOffer}
 use Rattle.machine_rules.specs.Rules.{closePort, offerReady, rowReady, readyRows, chosenOf, chosenCase, takeOffer, choose, selected}
-use Rattle.machine_step.specs.declared.Closing.the-variants.{Not, Of}
 use Rattle.machine_step.specs.Step.{closingOf, offerOf, planOf, acted, actedAt, refusedTurn, refusalOf, refusedBy, turnedAs, stepped}
 
 module _ (rs : List ℕ) (rows : ℕ) (s : State) (b : Values) (t : Task) (choice : ℕ) where
@@ -86,7 +73,7 @@ module _ (rs : List ℕ) (rows : ℕ) (s : State) (b : Values) (me : Task) (x : 
 
     selected-is : selected rs rows s b me x k e choice ≡ planOf rs rows s b me x (Select k e) (chosenCase rs rows s k (x .row .0 + 1) choice)
     unfolding selected chosenCase readyRows
-    selected-is = by-ready (keep (rowReady rs rows s) (listed (λ n. n) k (x .row .0 + 1))) (kept-holds (rowReady rs rows s) 0 (listed (λ n. n) k (x .row .0 + 1)))
+    selected-is = by-ready (keep (rowReady rs rows s) (tabulate (λ n. n) k (x .row .0 + 1))) (kept-holds (rowReady rs rows s) 0 (tabulate (λ n. n) k (x .row .0 + 1)))
 
   acts-closing : (st : Statement) (p : Port) (n : Row) → closingOf st ≡ Of p n → acted rs rows s b me x choice st ≡ closePort rs s me x p n
   acts-closing (Do o i) p n e = cc

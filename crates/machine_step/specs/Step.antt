@@ -3,28 +3,12 @@ use mathlib.Core.Bool.{cond}
 use mathlib.Core.List.{List}
 use Prim.Native.Nat.{ℕ, _+_, _%_}
 use lib.Dec.{eqb, ltb}
-use Rattle.meaning.specs.declared.Task.{Task}
-use Rattle.meaning.specs.declared.Row.{Row}
-use Rattle.meaning.specs.declared.Op.the-variants.{Recv}
-use Rattle.meaning.specs.declared.Statement.{Statement}
-use Rattle.meaning.specs.declared.Statement.the-variants.{Do, Close, Range, Repeat, Ifok, Select, Case, Stop}
-use Rattle.meaning.specs.declared.Status.{Status}
-use Rattle.meaning.specs.declared.Status.the-variants.{Able, Waiting, Ended}
-use Rattle.meaning.specs.declared.Event.the-variants.{Refused}
+use Rattle.machine_step.specs.Kinds.{Task, Row, Recv, Statement, Do, Close, Range, Repeat, Ifok, Select, Case, Stop, Status, Able, Waiting, Ended, Refused, TaskState, State, Keep, Plan, Turned, Offer, Nothing, By, Closing, Not, Of}
 use Rattle.meaning.specs.Numbers.{halted, noSuchTask, hasEnded, isWaiting, noFault}
 use Rattle.meaning.specs.Bytes.{rowsIn}
-use Rattle.machine_state.specs.declared.TaskState.{TaskState}
-use Rattle.machine_state.specs.declared.State.{State}
-use Rattle.machine_state.specs.declared.Change.the-variants.{Keep}
-use Rattle.machine_state.specs.declared.Plan.{Plan}
-use Rattle.machine_state.specs.declared.Turned.{Turned}
 use Rattle.machine_state.specs.State.{Values, taskIn, lapOf, lapTask, applied}
 use Rattle.machine_plans.specs.Plans.{branchPlan, endPlan}
-use Rattle.machine_waiters.specs.declared.Offer.{Offer}
-use Rattle.machine_waiters.specs.declared.Offer.the-variants.{Nothing, By}
 use Rattle.machine_rules.specs.Rules.{orWait, attempt, closePort, noCase, chosenCase, selected}
-use Rattle.machine_step.specs.declared.Closing.{Closing}
-use Rattle.machine_step.specs.declared.Closing.the-variants.{Not, Of}
 
 -- THE TURN
 

@@ -4,16 +4,9 @@
 ghost use mathlib.Core.Path.{_≡_};
 ghost use Prim.Native.Nat.{_+_};
 ghost use Rattle.machine_step.specs.Step.{repeated, asked, refusalOf, refusedBy, refusedTurn, closingOf, offerOf, planAlone, planOf, stepped};
-use meaning::Event;
-use meaning::Op;
-use meaning::Port;
-use meaning::Row;
-use meaning::Statement;
-use meaning::Status;
-use meaning::Task;
+use image_rows::table::statement_at;
 use machine_plans::branch;
 use machine_plans::end;
-use image_rows::table::statement_at;
 use machine_rules::closing::close_port;
 use machine_rules::ops::do_op;
 use machine_rules::select::chosen_case;
@@ -27,6 +20,13 @@ use machine_state::lap_of;
 use machine_state::settle;
 use machine_state::with_lap;
 use machine_waiters::Offer;
+use meaning::Event;
+use meaning::Op;
+use meaning::Port;
+use meaning::Row;
+use meaning::Statement;
+use meaning::Status;
+use meaning::Task;
 
 // What a statement closes.
 pub enum Closing {

@@ -1,22 +1,18 @@
 -- One step of each walk. Assumes nothing.
-use mathlib.Core.Path.{_≡_, refl, sym, ap, _∙_}
+use mathlib.Core.Path.{_≡_}
 use mathlib.Core.List.{List}
 use Prim.Native.Nat.{ℕ, suc, _+_, _-_, _<_}
-use native.Mathlib.Nat.{add-suc}
 use native.Mathlib.Numerals.{add-one}
 use native.Mathlib.Omega.{arith}
 use lib.ListN.{length, getD, take, drop, length-take}
 use lib.Seq.{drop-cons, getD-take}
-use Rattle.meaning.specs.declared.Task.{Task}
-use Rattle.meaning.specs.declared.Chan.{Chan}
+use Rattle.machine_waiters.specs.Kinds.{Task, Chan, Side, Offer}
 use Rattle.meaning.specs.Image.{rowNo}
 use Rattle.meaning.specs.Bytes.{rowsIn}
-use Rattle.machine_waiters.specs.declared.Side.{Side}
-use Rattle.machine_waiters.specs.declared.Offer.{Offer}
-use Rattle.machine_waiters.specs.Waiters.{fitting, caseOffer, orElse, firstCase, foundBy, firstOf, isOffer, one, countOf}
+use Rattle.machine_waiters.specs.Waiters.{serving, caseOffer, orElse, firstCase, foundBy, firstOf, isOffer, one, countOf}
 
 pub case-step : (rs : List ℕ) (side : Side) (c : Chan) (k i n : ℕ) → i < k
-    → firstCase rs side c (k - i) (n + i) ≡ orElse (fitting side c (caseOffer (rowsIn rs (rowNo (n + i))))) (firstCase rs side c (k - (i + 1)) (n + (i + 1)))
+    → firstCase rs side c (k - i) (n + i) ≡ orElse (serving side c (caseOffer (rowsIn rs (rowNo (n + i))))) (firstCase rs side c (k - (i + 1)) (n + (i + 1)))
 unfolding firstCase
 case-step rs side c k i n h =
     let e : k - i ≡ suc (k - (i + 1)) = omega arith in

@@ -1,1 +1,3 @@
+pub mod Kinds
 pub mod Waiters
+pub mod laws

@@ -1,35 +1,18 @@
 -- Who waits for what, over the records of a state and the rows from row 0 on. The rules are the meaning's (`receivesOn`,
 -- `sendsOn`); what is said here is how the waiting tasks are walked.
-use mathlib.Core.Path.{_≡_, sym, ap, _∙_}
 use mathlib.Core.Bool.{Bool, true, false, cond}
 use mathlib.Core.List.{List, [], _∷_}
 use Prim.Native.Nat.{ℕ, zero, suc, _+_}
 use lib.ListN.{replicate}
-use Rattle.meaning.specs.declared.Task.{Task}
-use Rattle.meaning.specs.declared.Chan.{Chan}
-use Rattle.meaning.specs.declared.Row.{Row}
-use Rattle.meaning.specs.declared.Op.{Op}
-use Rattle.meaning.specs.declared.Op.the-variants.{Recv}
-use Rattle.meaning.specs.declared.Status.the-variants.{Able}
-use Rattle.meaning.specs.declared.Statement.{Statement}
-use Rattle.meaning.specs.declared.Statement.the-variants.{Do, Close, Range, Repeat, Ifok, Select, Case, Stop}
+use Rattle.machine_waiters.specs.Kinds.{Task, Chan, Row, Op, Recv, Able, Statement, Do, Close, Range, Repeat, Ifok, Select, Case, Stop, TaskState, State, Side, Receiving, Sending, Offer, Nothing, By, Found, Nobody, At, Partner}
 use Rattle.meaning.specs.Machine.{receivesOn, sendsOn}
 use Rattle.meaning.specs.Image.{rowNo}
 use Rattle.meaning.specs.Bytes.{rowsIn}
-use Rattle.machine_state.specs.declared.TaskState.{TaskState}
-use Rattle.machine_state.specs.declared.State.{State}
 use Rattle.machine_state.specs.State.{taskIn, orderOf}
-use Rattle.machine_waiters.specs.declared.Side.{Side}
-use Rattle.machine_waiters.specs.declared.Side.the-variants.{Receiving, Sending}
-use Rattle.machine_waiters.specs.declared.Offer.{Offer}
-use Rattle.machine_waiters.specs.declared.Offer.the-variants.{Nothing, By}
-use Rattle.machine_waiters.specs.declared.Found.{Found}
-use Rattle.machine_waiters.specs.declared.Found.the-variants.{Nobody, At}
-use Rattle.machine_waiters.specs.declared.Partner.{Partner}
 
-abbrev pub fits : Side → Chan → Op → Bool
-fits Receiving c o = receivesOn c o
-fits Sending c o = sendsOn c o
+abbrev pub serves : Side → Chan → Op → Bool
+serves Receiving c o = receivesOn c o
+serves Sending c o = sendsOn c o
 
 abbrev pub caseOffer : Statement → Offer
 caseOffer (Do o n) = Nothing
@@ -41,24 +24,24 @@ caseOffer (Select k e) = Nothing
 caseOffer (Case o n) = By o n n
 caseOffer Stop = Nothing
 
-abbrev pub fitting : Side → Chan → Offer → Offer
-fitting side c Nothing = Nothing
-fitting side c (By o h x) = cond (fits side c o) (By o h x) Nothing
+abbrev pub serving : Side → Chan → Offer → Offer
+serving side c Nothing = Nothing
+serving side c (By o h x) = cond (serves side c o) (By o h x) Nothing
 
 abbrev pub orElse : Offer → Offer → Offer
 orElse Nothing f = f
 orElse (By o h x) f = By o h x
 
 module _ (rs : List ℕ) (side : Side) (c : Chan) where
-  -- The first of k case rows from row i on that fits.
+  -- The first of k case rows from row i on that serves.
   unfoldable pub firstCase : ℕ → ℕ → Offer
   firstCase zero i = Nothing
-  firstCase (suc k) i = orElse (fitting side c (caseOffer (rowsIn rs (rowNo i)))) (firstCase k (suc i))
+  firstCase (suc k) i = orElse (serving side c (caseOffer (rowsIn rs (rowNo i)))) (firstCase k (suc i))
 
   abbrev pub matchedBy : ℕ → Statement → Offer
-  matchedBy row (Do o n) = fitting side c (By o n n)
+  matchedBy row (Do o n) = serving side c (By o n n)
   matchedBy row (Close p n) = Nothing
-  matchedBy row (Range p n a) = fitting side c (By (Recv p) n a)
+  matchedBy row (Range p n a) = serving side c (By (Recv p) n a)
   matchedBy row (Repeat d k n a) = Nothing
   matchedBy row (Ifok n a) = Nothing
   matchedBy row (Select k e) = firstCase k (row + 1)
@@ -107,11 +90,8 @@ abbrev pub recordOf : State → Found → TaskState
 recordOf s Nobody = noRecord
 recordOf s (At t o h x) = taskIn (s .tasks) t
 
-abbrev pub noPartner : Partner
-noPartner = record { found = Nobody; stands = noRecord }
+abbrev pub blankPartner : Partner
+blankPartner = record { found = Nobody; stands = noRecord }
 
 abbrev pub partnerOf : State → Found → Partner
 partnerOf s f = record { found = f; stands = recordOf s f }
-
-pub partner-stands : (s : State) (q : Partner) (f : Found) → q ≡ partnerOf s f → q .stands ≡ recordOf s (q .found)
-partner-stands s q f e = ap (λ (p : Partner). p .stands) e ∙ ap (recordOf s) (sym (ap (λ (p : Partner). p .found) e))

@@ -3,7 +3,10 @@
 ghost use mathlib.Core.Path.{_≡_};
 ghost use Prim.Native.Nat.{_+_};
 ghost use Rattle.meaning.specs.Machine.{isOn, receivesOn, sendsOn};
-ghost use Rattle.machine_waiters.specs.Waiters.{fits, caseOffer, fitting, firstCase, matchedBy, matchedAt, firstWaiter, noPartner, partnerOf, isOffer, countWaiters};
+ghost use Rattle.machine_waiters.specs.Waiters.{serves, caseOffer, serving, firstCase, matchedBy, matchedAt, firstWaiter, blankPartner, partnerOf, isOffer, countWaiters};
+use image_rows::table::statement_at;
+use machine_state::State;
+use machine_state::TaskState;
 use meaning::Chan;
 use meaning::Op;
 use meaning::Port;
@@ -11,9 +14,6 @@ use meaning::Row;
 use meaning::Statement;
 use meaning::Status;
 use meaning::Task;
-use image_rows::table::statement_at;
-use machine_state::State;
-use machine_state::TaskState;
 
 // The side of a channel on which a task waits.
 pub enum Side {
@@ -68,8 +68,8 @@ fn sends_on(c: Chan, o: Op) -> bool
     }
 }
 
-fn fits_side(side: Side, c: Chan, o: Op) -> bool
-    ensures { λ r. ⌜ r ≡ fits side c o ⌝ }
+fn serves_side(side: Side, c: Chan, o: Op) -> bool
+    ensures { λ r. ⌜ r ≡ serves side c o ⌝ }
 {
     match side {
         Side::Receiving => receives_on(c, o),
@@ -94,13 +94,13 @@ pub fn case_offer(s: Statement) -> Offer
 }
 
 // An offer that is on this side of the channel, or nothing.
-fn fitting_offer(side: Side, c: Chan, f: Offer) -> Offer
-    ensures { λ r. ⌜ r ≡ fitting side c f ⌝ }
+fn serving_offer(side: Side, c: Chan, f: Offer) -> Offer
+    ensures { λ r. ⌜ r ≡ serving side c f ⌝ }
 {
     match f {
         Offer::Nothing => Offer::Nothing,
         Offer::By(o, hit, miss) => {
-            if fits_side(side, c, o) {
+            if serves_side(side, c, o) {
                 Offer::By(o, hit, miss)
             } else {
                 Offer::Nothing
@@ -109,14 +109,14 @@ fn fitting_offer(side: Side, c: Chan, f: Offer) -> Offer
     }
 }
 
-// The first of the k case rows behind a row that fits.
+// The first of the k case rows behind a row that serves.
 fn first_case(body: &[u8], side: Side, c: Chan, k: u8, row: Row) -> Offer
     ensures { λ r. ⌜ r ≡ firstCase (now (body .entry)) side c k (row .0 + 1) ⌝ }
 {
     let first = row.0 as u32 + 1;
     let mut i: u8 = 0;
     while i < k {
-        let f = fitting_offer(side, c, case_offer(statement_at(body, first + i as u32)));
+        let f = serving_offer(side, c, case_offer(statement_at(body, first + i as u32)));
         i = i + 1;
         match f {
             Offer::By(o, hit, miss) => {
@@ -132,9 +132,9 @@ fn matched_by(body: &[u8], side: Side, c: Chan, row: Row, s: Statement) -> Offer
     ensures { λ r. ⌜ r ≡ matchedBy (now (body .entry)) side c (row .0) s ⌝ }
 {
     match s {
-        Statement::Do(o, n) => fitting_offer(side, c, Offer::By(o, n, n)),
+        Statement::Do(o, n) => serving_offer(side, c, Offer::By(o, n, n)),
         Statement::Close(_, _) => Offer::Nothing,
-        Statement::Range(p, n, a) => fitting_offer(side, c, Offer::By(Op::Recv(p), n, a)),
+        Statement::Range(p, n, a) => serving_offer(side, c, Offer::By(Op::Recv(p), n, a)),
         Statement::Repeat(_, _, _, _) => Offer::Nothing,
         Statement::Ifok(_, _) => Offer::Nothing,
         Statement::Select(k, _) => first_case(body, side, c, k, row),
@@ -151,7 +151,7 @@ pub fn matched_at(body: &[u8], side: Side, c: Chan, row: Row) -> Offer
 }
 
 fn nobody() -> Partner
-    ensures { λ r. ⌜ r ≡ noPartner ⌝ }
+    ensures { λ r. ⌜ r ≡ blankPartner ⌝ }
 {
     let laps = [0u8; 6];
     let status = Status::Able;

@@ -4,15 +4,7 @@ use mathlib.Core.List.{List, [], _∷_, _++_}
 use Prim.Native.Nat.{ℕ, zero, suc, _+_, _-_, _*_, _/_, _%_}
 use lib.ListN.{length, getD, drop}
 use lib.Dec.{eqb, leb}
-use Rattle.meaning.specs.declared.Row.{Row}
-use Rattle.meaning.specs.declared.Fields.{Fields}
-use Rattle.meaning.specs.declared.Port.{Port}
-use Rattle.meaning.specs.declared.Port.the-variants.{Nil, On}
-use Rattle.meaning.specs.declared.Op.the-variants.{Send, Forward, Recv}
-use Rattle.meaning.specs.declared.Otherwise.{Otherwise}
-use Rattle.meaning.specs.declared.Otherwise.the-variants.{Wait, Go}
-use Rattle.meaning.specs.declared.Statement.{Statement}
-use Rattle.meaning.specs.declared.Statement.the-variants.{Do, Close, Range, Repeat, Ifok, Select, Case, Stop}
+use Rattle.meaning.specs.Kinds.{Row, Fields, Port, Nil, On, Send, Forward, Recv, Otherwise, Wait, Go, Statement, Do, Close, Range, Repeat, Ifok, Select, Case, Stop}
 use Rattle.meaning.specs.Events.{portNumber}
 use Rattle.meaning.specs.Machine.{Machine}
 use Rattle.meaning.specs.Text.{Job}
@@ -115,18 +107,18 @@ jobImage j = imageBytes (rowsT (j .tasks) 0) (j .capacities) (firstRows (j .task
 abbrev pub byteAt : List ℕ → ℕ → ℕ
 byteAt bs i = getD bs i 0
 
-abbrev pub word : ℕ → ℕ → ℕ
-word low high = low + 256 * high
+abbrev pub twoOf : ℕ → ℕ → ℕ
+twoOf low high = low + 256 * high
 
-abbrev pub wordAt : List ℕ → ℕ → ℕ
-wordAt bs i = word (byteAt bs i) (byteAt bs (i + 1))
+abbrev pub twoAt : List ℕ → ℕ → ℕ
+twoAt bs i = twoOf (byteAt bs i) (byteAt bs (i + 1))
 
 -- The trailer, and what it says.
 unfoldable pub trailerOf : List ℕ → List ℕ
 trailerOf bs = drop (length bs - trailerSize) bs
 
 unfoldable pub rowCount : List ℕ → ℕ
-rowCount bs = wordAt (trailerOf bs) 0
+rowCount bs = twoAt (trailerOf bs) 0
 
 unfoldable pub channelCount : List ℕ → ℕ
 channelCount bs = byteAt (trailerOf bs) 2
@@ -135,7 +127,7 @@ unfoldable pub taskCount : List ℕ → ℕ
 taskCount bs = byteAt (trailerOf bs) 3
 
 unfoldable pub distance : List ℕ → ℕ
-distance bs = wordAt (trailerOf bs) 4
+distance bs = twoAt (trailerOf bs) 4
 
 unfoldable pub markOf : List ℕ → ℕ
 markOf bs = byteAt (trailerOf bs) 6
@@ -150,9 +142,9 @@ bodyOf bs = drop ((length bs - trailerSize) - distance bs) bs
 abbrev pub fieldsAt : List ℕ → ℕ → Fields
 fieldsAt rs i =
     fields (byteAt rs i) (byteAt rs (i + 1))
-    (word (byteAt rs (i + 2)) (byteAt rs (i + 3)))
-    (word (byteAt rs (i + 4)) (byteAt rs (i + 5)))
-    (word (byteAt rs (i + 6)) (byteAt rs (i + 7)))
+    (twoOf (byteAt rs (i + 2)) (byteAt rs (i + 3)))
+    (twoOf (byteAt rs (i + 4)) (byteAt rs (i + 5)))
+    (twoOf (byteAt rs (i + 6)) (byteAt rs (i + 7)))
 
 -- The fields of a row, where rs is the image from row 0 on; all 0 where the slice ends ahead of the row's end.
 unfoldable pub fieldsOfRow : List ℕ → Row → Fields
@@ -166,22 +158,22 @@ unfoldable pub capacityIn : List ℕ → ℕ → ℕ → ℕ
 capacityIn rs rows c = byteAt rs (rowSize * rows + c)
 
 unfoldable pub firstRowIn : List ℕ → ℕ → ℕ → ℕ → Row
-firstRowIn rs rows channels t = rowNo (wordAt rs (rowSize * rows + channels + 2 * t))
+firstRowIn rs rows channels t = rowNo (twoAt rs (rowSize * rows + channels + 2 * t))
 
 -- f at n numbers from i on.
-unfoldable pub listed : {A : Type 0} → (ℕ → A) → ℕ → ℕ → List A
-listed f zero i = []
-listed f (suc n) i = f i ∷ listed f n (suc i)
+unfoldable pub tabulate : {A : Type 0} → (ℕ → A) → ℕ → ℕ → List A
+tabulate f zero i = []
+tabulate f (suc n) i = f i ∷ tabulate f n (suc i)
 
 -- The rows of an image, its capacities and first rows, and a fresh start.
 unfoldable pub rowsOf : List ℕ → Rows
 rowsOf bs = rowsIn (bodyOf bs)
 
 unfoldable pub capacitiesOf : List ℕ → List ℕ
-capacitiesOf bs = listed (capacityIn (bodyOf bs) (rowCount bs)) (channelCount bs) 0
+capacitiesOf bs = tabulate (capacityIn (bodyOf bs) (rowCount bs)) (channelCount bs) 0
 
 unfoldable pub firstRowsOf : List ℕ → List Row
-firstRowsOf bs = listed (firstRowIn (bodyOf bs) (rowCount bs) (channelCount bs)) (taskCount bs) 0
+firstRowsOf bs = tabulate (firstRowIn (bodyOf bs) (rowCount bs) (channelCount bs)) (taskCount bs) 0
 
 unfoldable pub startOf : List ℕ → Machine Spot
 startOf bs = imageStart (capacitiesOf bs) (firstRowsOf bs)

@@ -1,17 +1,8 @@
 -- Document 01, 'What comes back', the turn events: the number, channel, value and partner of each.
 use Prim.Native.Nat.{ℕ}
-use Rattle.meaning.specs.declared.Port.{Port}
-use Rattle.meaning.specs.declared.Port.the-variants.{Nil, On}
-use Rattle.meaning.specs.declared.Event.{Event}
-use Rattle.meaning.specs.declared.Event.the-variants.{Appended, Handed, Taken, Refilled, Received, Drained, Closed, Waits, Branched, Finished, Faulted, Refused}
+use Rattle.meaning.specs.Kinds.{EventNumbers, Port, Nil, On, Event, Appended, Handed, Taken, Refilled, Received, Drained, Closed, Waits, Branched, Finished, Faulted, Refused}
 
-pub record Numbers : Type 0 where
-  pub number : ℕ
-  pub channel : ℕ
-  pub value : ℕ
-  pub partner : ℕ
-
-abbrev pub event : ℕ → ℕ → ℕ → ℕ → Numbers
+abbrev pub event : ℕ → ℕ → ℕ → ℕ → EventNumbers
 event n c v q = record { number = n; channel = c; value = v; partner = q }
 
 -- "255, 0, 255 where unused"
@@ -29,7 +20,7 @@ abbrev pub portNumber : Port → ℕ
 portNumber Nil = 255
 portNumber (On c) = c .0
 
-unfoldable pub numbers : Event → Numbers
+unfoldable pub numbers : Event → EventNumbers
 numbers (Appended c v) = event 1 (c .0) v noPartner
 numbers (Handed c v q) = event 2 (c .0) v (q .0)
 numbers (Taken c v) = event 3 (c .0) v noPartner

@@ -5,12 +5,7 @@ use mathlib.Core.List.{List, [], _∷_, _++_, map}
 use Prim.Native.Nat.{ℕ, zero, suc}
 use lib.ListN.{getD, set, replicate}
 use lib.Dec.{ltb}
-use Rattle.meaning.specs.declared.Row.{Row}
-use Rattle.meaning.specs.declared.Op.the-variants.{Recv}
-use Rattle.meaning.specs.declared.Otherwise.{Otherwise}
-use Rattle.meaning.specs.declared.Otherwise.the-variants.{Wait, Go}
-use Rattle.meaning.specs.declared.Statement.{Statement}
-use Rattle.meaning.specs.declared.Statement.the-variants.{Do, Close, Range, Repeat, Ifok, Select, Case, Stop}
+use Rattle.meaning.specs.Kinds.{Row, Recv, Otherwise, Wait, Go, Statement, Do, Close, Range, Repeat, Ifok, Select, Case, Stop}
 use Rattle.meaning.specs.Numbers.{depthLimit}
 use Rattle.meaning.specs.Machine as m
 

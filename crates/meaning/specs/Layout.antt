@@ -1,11 +1,7 @@
 -- Document 01, 'Step image': where the rows of a text stand, and which rows their fields name.
 use mathlib.Core.List.{List, [], _∷_, _++_}
 use Prim.Native.Nat.{ℕ, suc, _+_}
-use Rattle.meaning.specs.declared.Row.{Row}
-use Rattle.meaning.specs.declared.Otherwise.{Otherwise}
-use Rattle.meaning.specs.declared.Otherwise.the-variants.{Wait, Go}
-use Rattle.meaning.specs.declared.Statement.{Statement}
-use Rattle.meaning.specs.declared.Statement.the-variants.{Do, Close, Range, Repeat, Ifok, Select, Case, Stop}
+use Rattle.meaning.specs.Kinds.{Row, Otherwise, Wait, Go, Statement, Do, Close, Range, Repeat, Ifok, Select, Case, Stop}
 use Rattle.meaning.specs.Text.{Stmt, operate, close, stop, range, repeat, ifok, select, Body, empty, _▸_, Cases, nomore, default, case}
 use Rattle.meaning.specs.Image.{rowNo}
 

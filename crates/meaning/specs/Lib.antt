@@ -1,4 +1,5 @@
 -- What a reader must believe, in the order in which it is read beside document 01.
+pub mod Kinds
 pub mod Numbers
 pub mod Events
 pub mod Machine
@@ -6,6 +7,5 @@ pub mod Text
 pub mod Image
 pub mod Layout
 pub mod Bytes
-pub mod Examples
 -- Laws that the crates above share; nothing to believe.
-pub mod Tests
+pub mod laws

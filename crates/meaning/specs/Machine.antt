@@ -7,16 +7,7 @@ use mathlib.Core.List.{List, [], _∷_, _++_, map}
 use Prim.Native.Nat.{ℕ, zero, suc, _+_, _%_}
 use lib.ListN.{length, getD, set, getElem?}
 use lib.Dec.{ltb, eqb}
-use Rattle.meaning.specs.declared.Task.{Task}
-use Rattle.meaning.specs.declared.Chan.{Chan}
-use Rattle.meaning.specs.declared.Port.{Port}
-use Rattle.meaning.specs.declared.Port.the-variants.{Nil, On}
-use Rattle.meaning.specs.declared.Op.{Op}
-use Rattle.meaning.specs.declared.Op.the-variants.{Send, Forward, Recv}
-use Rattle.meaning.specs.declared.Status.{Status}
-use Rattle.meaning.specs.declared.Status.the-variants.{Able, Waiting, Ended}
-use Rattle.meaning.specs.declared.Event.{Event}
-use Rattle.meaning.specs.declared.Event.the-variants.{Appended, Handed, Taken, Refilled, Received, Drained, Closed, Waits, Branched, Finished, Faulted, Refused}
+use Rattle.meaning.specs.Kinds.{Task, Chan, Port, Nil, On, Op, Send, Forward, Recv, Status, Able, Waiting, Ended, Event, Appended, Handed, Taken, Refilled, Received, Drained, Closed, Waits, Branched, Finished, Faulted, Refused}
 use Rattle.meaning.specs.Numbers.{stampModulus, halted, noSuchTask, hasEnded, isWaiting, noFault, sendOnClosed, closeOfNil, closeOfClosed, closeUnderSender}
 
 -- WHAT A TASK DOES NEXT
@@ -88,6 +79,10 @@ seen m = record {
   named = m .named;
   stamp = m .stamp;
 }
+
+-- Of a turn: the event, and all of the machine but the points.
+abbrev pub seenTurn : {P : Type 0} → Turned P → Event × Machine (Unit {0})
+seenTurn r = (r .event, seen (r .after))
 
 -- OPERATIONS AND CHANNELS
 

@@ -66,8 +66,8 @@ rowsFull = 8
 abbrev pub cutShort : ℕ
 cutShort = 9
 
-abbrev pub noTask : ℕ
-noTask = 10
+abbrev pub noTaskGiven : ℕ
+noTaskGiven = 10
 
 abbrev pub bufferTooShort : ℕ
 bufferTooShort = 11

@@ -4,9 +4,7 @@ use mathlib.Core.Option.{Option, none, some}
 use mathlib.Core.List.{List, [], _∷_, map}
 use Prim.Native.Nat.{ℕ, suc}
 use lib.Dec.{ltb}
-use Rattle.meaning.specs.declared.Port.{Port}
-use Rattle.meaning.specs.declared.Op.{Op}
-use Rattle.meaning.specs.declared.Op.the-variants.{Recv}
+use Rattle.meaning.specs.Kinds.{Port, Op, Recv}
 use Rattle.meaning.specs.Machine.{Case, Look, tries, closes, branches, asks, ends, alone, Machine, fresh}
 
 -- A BODY

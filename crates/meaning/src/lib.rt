@@ -2,6 +2,9 @@
 // They stand here, below everything else, so that a definition in specs/ speaks of the very values that the code passes
 // and answers, and no second set of kinds has to be related to the first.
 
+ghost use mathlib.Core.Path.{_≡_};
+ghost use Rattle.meaning.specs.Events.{portNumber};
+
 // Document 01, 'Step image': a task number and a channel number both run from 0 to 15 and are kept apart by kind; so is
 // the number of a row.
 pub struct Task(pub u8);
@@ -72,4 +75,22 @@ pub enum Event {
     Finished,
     Faulted(Port, u8, Task), // the channel, the fault, the task named
     Refused(u8), // a refused turn's number
+}
+
+// The four numbers by which document 01 tells an event.
+pub struct EventNumbers {
+    pub number: u8,
+    pub channel: u8,
+    pub value: u16,
+    pub partner: u8,
+}
+
+// A channel's number, 255 for nil: in a row and in an event alike.
+pub fn port_number(p: Port) -> u8
+    ensures { λ r. ⌜ r ≡ portNumber p ⌝ }
+{
+    match p {
+        Port::Nil => 255,
+        Port::On(c) => c.0,
+    }
 }

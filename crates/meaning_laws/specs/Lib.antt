@@ -1,14 +1,7 @@
--- Laws of the machine of meaning, for every kind of points; Closed and Whole are of sound images.
+-- What stays true of a machine at every turn of a run, over any points.
+pub mod Kinds
 pub mod Lists
-pub mod Natural
-pub mod Runs
-pub mod Outcome
-pub mod Steady
 pub mod Fits
-pub mod Spare
-pub mod Waiters
-pub mod Never
-pub mod Points
-pub mod Closed
-pub mod Whole
+pub mod Partners
 pub mod Calm
+pub mod laws

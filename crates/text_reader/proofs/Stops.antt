@@ -2,8 +2,8 @@
 use mathlib.Core.List.{[], _∷_}
 use types.Run.{OneOf, miss}
 use denote.Enum.Declared.{tagOf}
-use Rattle.text_reader.specs.declared.Read.{Read}
-use Rattle.text_reader.specs.PartLaws.{Stops}
+use Rattle.text_reader.specs.Kinds.{Read}
+use Rattle.text_reader.specs.laws.Parts.{Stops}
 use Rattle.text_reader.proofs.Read.{the-type as read-type}
 
 pub stops : (v : Read) → OneOf (1 ∷ 2 ∷ []) (tagOf read-type v) → Stops v

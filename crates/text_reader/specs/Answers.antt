@@ -5,20 +5,10 @@ use mathlib.Core.List.{List}
 use Prim.Native.Nat.{ℕ, zero, suc, _+_, _-_, _≤_, _<_}
 use lib.Dec.{eqb, leb, ltb}
 use lib.ListN.{length}
-use Rattle.meaning.specs.declared.Port.{Port}
-use Rattle.meaning.specs.declared.Op.{Op}
-use Rattle.meaning.specs.declared.Op.the-variants.{Send, Forward, Recv}
+use Rattle.text_reader.specs.Kinds.{Port, Op, Send, Forward, Recv, Word, Read, Counted, NumberRead, PortRead, OpRead, Head, Reading}
 use Rattle.meaning.specs.Numbers.{channelLimit, taskLimit, caseLimit, valueLimit, lapLimit, depthLimit, rowLimit, wordOutOfPlace, tooDeep, rowsFull, cutShort}
 use Rattle.meaning.specs.Text.{Stmt, select, Body, Job}
-use Rattle.text_words.specs.declared.Word.{Word}
 use Rattle.text_words.specs.Words.{noKind, sendKind, forwardKind, recvKind, closeKind, rangeKind, repeatKind, ifokKind, selectKind, stopKind, wordAt}
-use Rattle.text_reader.specs.declared.Read.{Read}
-use Rattle.text_reader.specs.declared.Counted.{Counted}
-use Rattle.text_reader.specs.declared.NumberRead.{NumberRead}
-use Rattle.text_reader.specs.declared.PortRead.{PortRead}
-use Rattle.text_reader.specs.declared.OpRead.{OpRead}
-use Rattle.text_reader.specs.declared.Head.{Head}
-use Rattle.text_reader.specs.declared.Reading.{Reading}
 use Rattle.text_reader.specs.Reading.{Part, got, none, bad, bind, number, closed, port, opBy, secondBy, caseBy, lastBy, casesFrom, stmtBy, bodyFrom, chanBy, chansFrom, taskEnd, taskBy, tasksFrom}
 
 -- THE ANSWERS

@@ -6,15 +6,9 @@ use mathlib.Core.List.{List, [], _∷_}
 use Prim.Native.Nat.{ℕ, zero, suc, _+_}
 use lib.Dec.{eqb, leb, ltb}
 use lib.ListN.{length}
-use Rattle.meaning.specs.declared.Port.{Port}
-use Rattle.meaning.specs.declared.Port.the-variants.{Nil, On}
-use Rattle.meaning.specs.declared.Op.{Op}
-use Rattle.meaning.specs.declared.Op.the-variants.{Send, Forward, Recv}
-use Rattle.meaning.specs.Numbers.{textLimit, channelLimit, capacityLimit, taskLimit, caseLimit, valueLimit, lapLimit, depthLimit, rowLimit, textTooLong, byteNotAllowed, wordOutOfPlace, numberDue, numberOverRange, oneTooMany, tooDeep, rowsFull, cutShort, noTask}
+use Rattle.text_reader.specs.Kinds.{Port, Nil, On, Op, Send, Forward, Recv, Word, Place, Nowhere, At}
+use Rattle.meaning.specs.Numbers.{textLimit, channelLimit, capacityLimit, taskLimit, caseLimit, valueLimit, lapLimit, depthLimit, rowLimit, textTooLong, byteNotAllowed, wordOutOfPlace, numberDue, numberOverRange, oneTooMany, tooDeep, rowsFull, cutShort, noTaskGiven}
 use Rattle.meaning.specs.Text.{Stmt, operate, close, stop, range, repeat, ifok, select, Body, empty, _▸_, Cases, nomore, default, case, Job}
-use Rattle.text_words.specs.declared.Word.{Word}
-use Rattle.text_words.specs.declared.Place.{Place}
-use Rattle.text_words.specs.declared.Place.the-variants.{Nowhere, At}
 use Rattle.text_words.specs.Words.{noKind, chanKind, taskKind, sendKind, forwardKind, recvKind, closeKind, rangeKind, repeatKind, ifokKind, elseKind, selectKind, caseKind, defaultKind, stopKind, endKind, nilKind, numberKind, wordAt, firstNotAllowed}
 
 -- WHAT READING A PART OF THE TEXT GIVES
@@ -193,7 +187,7 @@ module _ (s : List ℕ) where
 
   -- 10: no task.
   abbrev pub jobOf : List ℕ → List Body → ℕ → ℕ → Part Job
-  jobOf caps [] at rows = bad noTask (length s)
+  jobOf caps [] at rows = bad noTaskGiven (length s)
   jobOf caps (b ∷ bs) at rows = got (record { capacities = caps; tasks = b ∷ bs }) at rows
 
   unfoldable pub job : Part Job

@@ -2,7 +2,7 @@
 // at the statement's word, ahead of the operands behind it.
 ghost use mathlib.Core.Path.{_≡_};
 ghost use Rattle.meaning.specs.Numbers.{lapLimit};
-ghost use Rattle.text_reader.specs.declared.Head.{Head};
+ghost use Rattle.text_reader.specs.Kinds.{Head};
 ghost use Rattle.text_reader.specs.Reading.{number, port, opBy};
 ghost use Rattle.text_reader.specs.Answers.{NumberTold, PortTold, SendTold, ForwardTold, RecvTold, OpTold, outOfPlace, isOp, isBlock, isStatement, isTooDeep, headOf, operandsBy, HeadTold};
 use crate::Head;

@@ -10,7 +10,7 @@ use lib.Dec.{eqb, leb}
 use lib.ListN.{length, getD, take, drop, length-take, drop-of-length-le}
 use lib.Seq.{drop-cons, getD-take, length-take-le}
 use Rattle.text_words.specs.Words.{run, reserved, sameWord, differs, decimal, numberCap}
-use Rattle.text_words.specs.WordsLaws.{below, at-each, same-eq, run-more, run-stop, run-end}
+use Rattle.text_words.specs.laws.Words.{below, at-each, same-eq, run-more, run-stop, run-end}
 
 unequal : (u w : List ℕ) → (length u ≡ length w → ⊥) → sameWord u w ≡ false
 unfolding sameWord

@@ -1,3 +1,3 @@
+pub mod Kinds
 pub mod Words
-pub mod WordsLaws
-pub mod Examples
+pub mod laws

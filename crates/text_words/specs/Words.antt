@@ -5,9 +5,7 @@ use Prim.Native.Nat.{ℕ, suc, _+_, _-_, _*_, min}
 use lib.Dec.{eqb, leb, ltb}
 use lib.ListN.{length, getD, take, drop}
 use Rattle.meaning.specs.Numbers.{valueLimit}
-use Rattle.text_words.specs.declared.Word.{Word}
-use Rattle.text_words.specs.declared.Place.{Place}
-use Rattle.text_words.specs.declared.Place.the-variants.{Nowhere, At}
+use Rattle.text_words.specs.Kinds.{Word, Place, Nowhere, At}
 
 -- "Bytes a to z, 0 to 9, blank (32) and newline (10)". Words are parted by the last two.
 unfoldable pub isBlank : ℕ → Bool

@@ -15,7 +15,7 @@ use denote.Memory.{mem, cellAt, partOf}
 use denote.Steps.{only}
 use denote.Struct.Steps.{spelt}
 use denote.Struct.Laws as LL
-use Rattle.thin_channel.specs.declared.Channel.{Channel}
+use Rattle.thin_channel.specs.Kinds.{Channel}
 use Rattle.thin_channel.proofs.Channel as T
 use Rattle.thin_channel.proofs.Channel.Laws as T′
 

@@ -1,15 +1,17 @@
 -- Document 01, 'Shape of the store': one channel record, lent for append and take. "Both answer no, nothing changed, where
 -- the .. room or value isn't there, a length is over its capacity or a capacity is over 16."
 use mathlib.Core.Bool.{Bool, true, false, cond, _&&_}
+use mathlib.Core.List.{List}
 use Prim.Native.Nat.{ℕ, _+_, _-_}
 use lib.Dec.{leb, ltb}
-use lib.ListN.{getD, set}
+use lib.ListN.{getD, set, take}
 use Rattle.meaning.specs.Numbers.{capacityLimit}
 use Rattle.machine_state.specs.State.{shifted}
-use Rattle.thin_channel.specs.declared.Channel.{Channel}
-use Rattle.thin_channel.specs.declared.Added.{Added}
-use Rattle.thin_channel.specs.declared.Taken.the-variants.{Value, No}
-use Rattle.thin_channel.specs.declared.Took.{Took}
+use Rattle.thin_channel.specs.Kinds.{Channel, Added, Value, No, Took}
+
+-- The values that a channel holds, oldest first.
+abbrev pub contents : Channel → List ℕ
+contents c = take (c .len) (c .values)
 
 -- "Length below capacity", the capacity not over its limit.
 abbrev pub hasRoom : Channel → Bool

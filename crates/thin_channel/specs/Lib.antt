@@ -1,2 +1,3 @@
+pub mod Kinds
 pub mod Channels
-pub mod Contents
+pub mod laws

@@ -49,8 +49,7 @@ use denote.Triple.Walked.{Stays, stay-none, walkOf, goes-none, ends-at, walked, 
 use denote.Exit.{Exit, Last, left, unchanged, yes}
 use denote.Triple.Clauses.{Ended, Clauses, AtExit, ensured, lasts, closing}
 use Rattle.thin_image.specs.Asked.{rowAsked, capacityAsked, firstRowAsked}
-use Rattle.thin_image.specs.declared.Opened.{Opened}
-use Rattle.thin_image.specs.declared.Held.{Held}
+use Rattle.thin_image.specs.Kinds.{Opened, Held}
 use Rattle.thin_image.proofs.Opened as T
 use Rattle.thin_image.proofs.Opened.Laws as T′
 use Rattle.thin_image.proofs.Held as K

@@ -5,24 +5,13 @@ use mathlib.Core.List.{List}
 use Prim.Native.Nat.{ℕ}
 use lib.Dec.{ltb}
 use denote.Ref.{RefT, now}
-use Rattle.meaning.specs.declared.Row.{Row}
-use Rattle.meaning.specs.declared.Chan.{Chan}
-use Rattle.meaning.specs.declared.Task.{Task}
+use Rattle.thin_image.specs.Kinds.{Row, Chan, Task, Counts, Checked, Good, Refused, Held, Opened, RowAnswer, CapacityAnswer, FirstRowAnswer, Answers}
 use Rattle.meaning.specs.Bytes.{bodyOf, rowsOf, capacityIn, firstRowIn}
-use Rattle.image_rows.specs.declared.Counts.{Counts}
 use Rattle.image_rows.specs.Rows.{countsOf}
-use Rattle.image_check.specs.declared.Checked.{Checked}
-use Rattle.image_check.specs.declared.Checked.the-variants.{Good, Refused}
 use Rattle.image_check.specs.Check.{checked}
-use Rattle.thin_image.specs.declared.Held.{Held}
-use Rattle.thin_image.specs.declared.Opened.{Opened}
-use Rattle.thin_image.specs.declared.RowAnswer.{RowAnswer}
 use Rattle.thin_image.specs.declared.RowAnswer.the-variants.{Found as rowFound, No as noRow}
-use Rattle.thin_image.specs.declared.CapacityAnswer.{CapacityAnswer}
-use Rattle.thin_image.specs.declared.CapacityAnswer.the-variants.{Found as capacityFound, No as noChannel}
-use Rattle.thin_image.specs.declared.FirstRowAnswer.{FirstRowAnswer}
-use Rattle.thin_image.specs.declared.FirstRowAnswer.the-variants.{Found as firstRowFound, No as noTask}
-use Rattle.thin_image.specs.declared.Answers.{Answers}
+use Rattle.thin_image.specs.declared.CapacityAnswer.the-variants.{Found as capacityFound, No as noCapacity}
+use Rattle.thin_image.specs.declared.FirstRowAnswer.the-variants.{Found as firstRowFound, No as noFirstRow}
 
 -- OPENING
 
@@ -46,10 +35,10 @@ unfoldable pub rowAsked : List ℕ → Held → Row → RowAnswer
 rowAsked bs h n = cond (ltb (n .0) (h .counts .rows)) (rowFound (rowsOf bs n)) noRow
 
 unfoldable pub capacityAsked : List ℕ → Held → Chan → CapacityAnswer
-capacityAsked bs h c = cond (ltb (c .0) (h .counts .channels)) (capacityFound (capacityIn (bodyOf bs) (h .counts .rows) (c .0))) noChannel
+capacityAsked bs h c = cond (ltb (c .0) (h .counts .channels)) (capacityFound (capacityIn (bodyOf bs) (h .counts .rows) (c .0))) noCapacity
 
 unfoldable pub firstRowAsked : List ℕ → Held → Task → FirstRowAnswer
-firstRowAsked bs h t = cond (ltb (t .0) (h .counts .tasks)) (firstRowFound (firstRowIn (bodyOf bs) (h .counts .rows) (h .counts .channels) (t .0))) noTask
+firstRowAsked bs h t = cond (ltb (t .0) (h .counts .tasks)) (firstRowFound (firstRowIn (bodyOf bs) (h .counts .rows) (h .counts .channels) (t .0))) noFirstRow
 
 -- OPENED AND ASKED
 

@@ -1,2 +1,3 @@
+pub mod Kinds
 pub mod Asked
-pub mod Answers
+pub mod laws

@@ -7,9 +7,6 @@ use crate::Held;
 use crate::RowAnswer;
 use image_check::Checked;
 use image_check::check;
-use meaning::Chan;
-use meaning::Row;
-use meaning::Task;
 use image_rows::Counts;
 use image_rows::bytes::body_of;
 use image_rows::bytes::counts_in;
@@ -17,6 +14,9 @@ use image_rows::bytes::trailer_of;
 use image_rows::table::capacity_in;
 use image_rows::table::first_row_in;
 use image_rows::table::statement_at;
+use meaning::Chan;
+use meaning::Row;
+use meaning::Task;
 
 fn counts_held(answer: Checked, k: Counts) -> Counts
     ensures { λ r. ⌜ r ≡ countsHeld answer k ⌝ }

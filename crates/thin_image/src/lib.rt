@@ -14,11 +14,11 @@ use ask::first_row_asked;
 use ask::hold;
 use ask::row_asked;
 use image_check::Checked;
+use image_rows::Counts;
 use meaning::Chan;
 use meaning::Row;
 use meaning::Statement;
 use meaning::Task;
-use image_rows::Counts;
 
 // What the check answered, and what the trailer counts: nothing, where the check refused.
 pub struct Held {

@@ -1,8 +1,4 @@
+pub mod Kinds
 pub mod Translated
-pub mod Answered
-pub mod Told
-pub mod Channels
-pub mod Joined
-pub mod Parts
-pub mod Outcome
-pub mod Examples
+pub mod Stored
+pub mod laws

@@ -9,8 +9,7 @@ use Rattle.meaning.specs.Numbers.{bufferTooShort}
 use Rattle.meaning.specs.Text.{Job}
 use Rattle.meaning.specs.Bytes.{jobImage}
 use Rattle.text_reader.specs.Reading.{Part, got, none, bad, reading}
-use Rattle.translate.specs.declared.Translated.{Translated}
-use Rattle.translate.specs.declared.Translated.the-variants.{Image, Refused}
+use Rattle.translate.specs.Kinds.{Translated, Image, Refused}
 
 -- 11: "buffer shorter than the image", with the length needed as its place, behind every other refusal. (A whole text is always
 -- read or refused; that nothing is there to read is no answer of `reading`.)

@@ -5,9 +5,7 @@ use Prim.Native.Nat.{ℕ}
 use native.Mathlib.Omega.{arith}
 use types.Run.{OneOf, miss}
 use denote.Enum.Declared.{tagOf}
-use Rattle.meaning.specs.declared.Op.{Op}
-use Rattle.text_reader.specs.declared.OpRead.{OpRead}
-use Rattle.text_reader.specs.declared.Counted.{Counted}
+use Rattle.translate_rows.specs.Kinds.{Op, OpRead, Counted}
 use Rattle.text_reader.proofs.OpRead.{the-type as op-type}
 use Rattle.text_reader.proofs.Counted.{the-type as counted-type}
 

@@ -1,5 +1,5 @@
--- What pass 2 leaves in the buffer, and one turn of each of its walks.
-pub mod Laid
-pub mod Told
-pub mod Turns
-pub mod Tasks
+-- What pass 2 leaves in the buffer, and one lap of each of its walks.
+pub mod Kinds
+pub mod RowsPut
+pub mod Stored
+pub mod laws

@@ -1,8 +1,9 @@
 // The case rows of a select, which stand ahead of all its bodies.
 ghost use Rattle.text_words.specs.Words.{wordAt};
 ghost use Rattle.text_reader.specs.Answers.{OpTold};
-ghost use Rattle.translate_rows.specs.Told.{Within, CasesLaid};
+ghost use Rattle.translate_rows.specs.Stored.{Within, CasesStored};
 use crate::firsts::first_at;
+use image_rows::table::put_row;
 use meaning::Row;
 use meaning::Statement;
 use text_reader::OpRead;
@@ -10,7 +11,6 @@ use text_reader::Read;
 use text_reader::heads::read_op;
 use text_reader::kinds::CASE_LIMIT;
 use text_reader::statements::read_case;
-use image_rows::table::put_row;
 use text_words::word_at;
 
 // The operation of the case at a place, behind the word `case`.
@@ -35,7 +35,7 @@ pub fn lay_cases(
     out: &mut [u8],
 )
     requires { ⌜ Within depth before top × Within depth before start ⌝ }
-    ensures { λ _. ⌜ CasesLaid (now (text .entry)) channels depth from before top start j (now (out .entry)) (now (out .exit)) ⌝ }
+    ensures { λ _. ⌜ CasesStored (now (text .entry)) channels depth from before top start j (now (out .entry)) (now (out .exit)) ⌝ }
 {
     let mut at = from;
     let mut rows = before;

@@ -1,5 +1,5 @@
 // The rows that fields name: where a body begins, by the first word of it, ahead of writing it.
-ghost use Rattle.translate_rows.specs.Told.{FirstTold, OtherwiseTold};
+ghost use Rattle.translate_rows.specs.Stored.{FirstTold, OtherwiseTold};
 use meaning::Otherwise;
 use meaning::Row;
 use text_reader::heads::is_statement;

@@ -1,21 +1,21 @@
 // The rows of all tasks, one behind the other, each closed by its stop row.
 ghost use Prim.Native.Nat.{_≤_};
 ghost use Rattle.meaning.specs.Numbers.{rowLimit};
-ghost use Rattle.translate_rows.specs.Told.{TasksLaid, FirstsLaid};
+ghost use Rattle.translate_rows.specs.Stored.{TasksStored, FirstsStored};
 use crate::bytes::put_two;
 use crate::statements::lay_body;
+use image_rows::table::put_row;
 use meaning::Row;
 use meaning::Statement;
 use text_reader::Read;
 use text_reader::jobs::read_task;
 use text_reader::kinds::TASK_LIMIT;
-use image_rows::table::put_row;
 use text_words::word_at;
 
 // The tasks from a place on, from row before on.
 pub fn lay_tasks(text: &[u8], channels: u8, from: usize, before: u16, out: &mut [u8])
     requires { ⌜ before ≤ rowLimit ⌝ }
-    ensures { λ _. ⌜ TasksLaid (now (text .entry)) channels from before (now (out .entry)) (now (out .exit)) ⌝ }
+    ensures { λ _. ⌜ TasksStored (now (text .entry)) channels from before (now (out .entry)) (now (out .exit)) ⌝ }
 {
     let mut at = from;
     let mut rows = before;
@@ -39,7 +39,7 @@ pub fn lay_tasks(text: &[u8], channels: u8, from: usize, before: u16, out: &mut 
 // The first row of each task from a place on, two bytes each, from byte base on.
 pub fn lay_firsts(text: &[u8], channels: u8, from: usize, before: u16, base: usize, out: &mut [u8])
     requires { ⌜ (before ≤ rowLimit) × (base ≤ 65000) ⌝ }
-    ensures { λ _. ⌜ FirstsLaid (now (text .entry)) channels from before base (now (out .entry)) (now (out .exit)) ⌝ }
+    ensures { λ _. ⌜ FirstsStored (now (text .entry)) channels from before base (now (out .entry)) (now (out .exit)) ⌝ }
 {
     let mut at = from;
     let mut rows = before;

@@ -1,11 +1,12 @@
 // The rows of bodies and of what they hold, written by functions that call each other as the reader's do. i is the row where a part
 // begins and j the row to which it leads; rows and depth are what the reader is told.
 ghost use Prim.Native.Nat.{_+_};
-ghost use Rattle.translate_rows.specs.Told.{Within, BodyLaid, LoopLaid, IfokLaid, LastLaid, BodiesLaid, SelectLaid, StmtLaid};
+ghost use Rattle.translate_rows.specs.Stored.{Within, BodyStored, LoopStored, IfokStored, LastStored, BodiesStored, SelectStored, StmtStored};
 use crate::cases::case_op_at;
 use crate::cases::lay_cases;
 use crate::firsts::first_at;
 use crate::firsts::otherwise_at;
+use image_rows::table::put_row;
 use meaning::Row;
 use meaning::Statement;
 use text_reader::Counted;
@@ -20,7 +21,6 @@ use text_reader::statements::read_body;
 use text_reader::statements::read_case;
 use text_reader::statements::read_cases;
 use text_reader::statements::read_stmt;
-use image_rows::table::put_row;
 use text_words::word_at;
 
 // The row x of a loop, and its body, which leads back to that row.
@@ -35,7 +35,7 @@ fn lay_loop(
     out: &mut [u8],
 )
     requires { ⌜ Within depth rows (i + 1) ⌝ }
-    ensures { λ _. ⌜ LoopLaid (now (text .entry)) channels depth at rows i x (now (out .entry)) (now (out .exit)) ⌝ }
+    ensures { λ _. ⌜ LoopStored (now (text .entry)) channels depth at rows i x (now (out .entry)) (now (out .exit)) ⌝ }
 {
     put_row(out, Row(i), x);
     lay_body(text, channels, depth, at, rows, i + 1, i, out);
@@ -52,7 +52,7 @@ fn lay_ifok(
     out: &mut [u8],
 )
     requires { ⌜ Within depth rows (i + 1) ⌝ }
-    ensures { λ _. ⌜ IfokLaid (now (text .entry)) channels depth at rows i j (now (out .entry)) (now (out .exit)) ⌝ }
+    ensures { λ _. ⌜ IfokStored (now (text .entry)) channels depth at rows i j (now (out .entry)) (now (out .exit)) ⌝ }
 {
     let body = read_body(text, channels, depth, at, rows);
     let Read::Done(behind, so_far) = body else {
@@ -86,7 +86,7 @@ fn lay_last(
     out: &mut [u8],
 )
     requires { ⌜ Within depth rows i ⌝ }
-    ensures { λ _. ⌜ LastLaid (now (text .entry)) channels depth at rows i j (now (out .entry)) (now (out .exit)) ⌝ }
+    ensures { λ _. ⌜ LastStored (now (text .entry)) channels depth at rows i j (now (out .entry)) (now (out .exit)) ⌝ }
 {
     let w = word_at(text, at);
     let kind = w.kind;
@@ -108,7 +108,7 @@ fn lay_bodies(
     out: &mut [u8],
 )
     requires { ⌜ Within depth before start ⌝ }
-    ensures { λ _. ⌜ BodiesLaid (now (text .entry)) channels depth from before start j (now (out .entry)) (now (out .exit)) ⌝ }
+    ensures { λ _. ⌜ BodiesStored (now (text .entry)) channels depth from before start j (now (out .entry)) (now (out .exit)) ⌝ }
 {
     let mut at = from;
     let mut rows = before;
@@ -143,7 +143,7 @@ fn lay_select(
     out: &mut [u8],
 )
     requires { ⌜ Within depth rows (i + 256) ⌝ }
-    ensures { λ _. ⌜ SelectLaid (now (text .entry)) channels depth at rows i j (now (out .entry)) (now (out .exit)) ⌝ }
+    ensures { λ _. ⌜ SelectStored (now (text .entry)) channels depth at rows i j (now (out .entry)) (now (out .exit)) ⌝ }
 {
     let cases = read_cases(text, channels, depth, at, rows);
     let Counted::Done(behind, so_far, n) = cases else {
@@ -169,7 +169,7 @@ fn lay_stmt(
     out: &mut [u8],
 )
     requires { ⌜ Within depth rows i ⌝ }
-    ensures { λ _. ⌜ StmtLaid (now (text .entry)) channels depth at rows i j (now (out .entry)) (now (out .exit)) ⌝ }
+    ensures { λ _. ⌜ StmtStored (now (text .entry)) channels depth at rows i j (now (out .entry)) (now (out .exit)) ⌝ }
 {
     match read_head(text, channels, depth, at, rows) {
         Head::Refused(_, _) => {}
@@ -230,7 +230,7 @@ pub fn lay_body(
     out: &mut [u8],
 )
     requires { ⌜ Within depth before start ⌝ }
-    ensures { λ _. ⌜ BodyLaid (now (text .entry)) channels depth from before start after (now (out .entry)) (now (out .exit)) ⌝ }
+    ensures { λ _. ⌜ BodyStored (now (text .entry)) channels depth from before start after (now (out .entry)) (now (out .exit)) ⌝ }
 {
     let mut at = from;
     let mut rows = before;

@@ -1,6 +1,5 @@
 use Rattle.image_rows.specs.Rows.{countsIn}
 use Rattle.meaning.specs.Bytes.{rowCount}
-use Prim.Native.Nat.{_-_}
 use mathlib.Core.Path.{_∙_}
 use borrow.Author.Needs.{needs}
 use Rattle.bench.proofs.rounds_of.Statement.{statement}

@@ -1,6 +1,6 @@
 use mathlib.Core.Path.{refl}
 use borrow.Author.Tests.{lt-ltb, le-ltb}
-use Rattle.listing_session.specs.Listed.{runSession, runChange, runLine}
+use Rattle.listing_session.specs.Session.{runSession, runChange, runLine}
 use borrow.Author.Needs.{needs}
 use Rattle.listing_session.proofs.run_listed.Statement.{statement}
 use Rattle.listing_session.proofs.run_listed.Tie as tie

@@ -1,5 +1,5 @@
 use borrow.Author.Tests.{lt-ltb, le-ltb}
-use Rattle.listing_session.specs.Listed.{stateLine}
+use Rattle.listing_session.specs.Session.{stateLine}
 use borrow.Author.Needs.{needs}
 use Rattle.listing_session.proofs.state_line.Statement.{statement}
 use Rattle.listing_session.proofs.state_line.Tie as tie

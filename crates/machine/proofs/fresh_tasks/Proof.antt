@@ -1,7 +1,7 @@
 use borrow.Author.Needs.{needs}
 use Rattle.machine.proofs.Laws.{fill-lap}
 use Rattle.machine_state.specs.Cells.{over}
-use Rattle.meaning.specs.Bytes.{listed, firstRowIn}
+use Rattle.meaning.specs.Bytes.{tabulate, firstRowIn}
 use Rattle.machine.specs.Public.{freshTask, freshTasks, unusedTasks}
 use denote.Ref.{now}
 use native.Mathlib.Omega.{arith}
@@ -11,13 +11,13 @@ use Rattle.machine.proofs.fresh_tasks.Statement.{statement}
 use Rattle.machine.proofs.fresh_tasks.Tie as tie
 
 abbrev Inv-loop : tie.InvT-loop
-Inv-loop body k n tasks₀ t₀ tasks t = (t ≤ n) × ((n ≤ 16) × (tasks ≡ over (listed (λ j. freshTask (firstRowIn body (k .rows) (k .channels) j)) t 0) unusedTasks))
+Inv-loop body k n tasks₀ t₀ tasks t = (t ≤ n) × ((n ≤ 16) × (tasks ≡ over (tabulate (λ j. freshTask (firstRowIn body (k .rows) (k .channels) j)) t 0) unusedTasks))
 
 abbrev μ-loop : tie.MeasureT-loop
 μ-loop body k n tasks₀ t₀ tasks t = n - t
 
 loop-holds : tie.Need-loop-holds Inv-loop μ-loop
-unfolding listed
+unfolding tabulate
 loop-holds c = (search needs, (search needs, rw (c .fresh-task .ensures)))
 
 loop-again : tie.Need-loop-again Inv-loop μ-loop

@@ -1,11 +1,10 @@
 use Rattle.image_rows.specs.Rows.{countsIn, countsOf}
 use Rattle.meaning.specs.Bytes.{taskCount}
-use Rattle.image_check.specs.Sound.{good-sound}
-use Rattle.machine.specs.Start.{started-means}
+use Rattle.image_check.specs.laws.Sound.{good-sound}
+use Rattle.machine.specs.laws.Start.{started-means}
 use Rattle.machine.specs.Public.{started}
 use denote.Ref.{now}
 use native.Mathlib.Omega.{arith}
-use Prim.Native.Nat.{_-_}
 use mathlib.Core.Path.{_≡_, sym, ap, _∙_}
 use borrow.Author.Needs.{needs}
 use Rattle.machine.proofs.start.Statement.{statement}

@@ -1,4 +1,3 @@
-use Prim.Native.Nat.{_-_}
 use borrow.Author.Needs.{needs}
 use Rattle.machine.proofs.start_as.Statement.{statement}
 use Rattle.machine.proofs.start_as.Tie as tie

@@ -1,12 +1,11 @@
 use Rattle.machine.proofs.Laws.{rows-length}
-use Rattle.machine_state.specs.Cells.{length-mapped}
+use Rattle.machine_state.specs.laws.Cells.{length-mapped}
 use Rattle.image_rows.specs.Rows.{countsOf}
-use Rattle.machine.specs.Meant.{turned-means}
-use Rattle.machine.specs.View.{Arrays}
+use Rattle.machine.specs.laws.Meant.{turned-means}
+use Rattle.machine.specs.laws.Fit.{Arrays}
 use Rattle.machine.specs.Public.{turned, Means}
 use mathlib.Core.Path.{subst}
 use denote.Ref.{now}
-use Prim.Native.Nat.{_-_}
 use mathlib.Core.Path.{_≡_, sym}
 use borrow.Author.Needs.{needs}
 use Rattle.machine.proofs.turn.Statement.{statement}

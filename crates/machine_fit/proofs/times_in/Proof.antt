@@ -1,7 +1,7 @@
 use borrow.Author.Needs.{needs}
 use Rattle.machine_fit.proofs.Laws.{times-step}
 use Rattle.machine_fit.specs.Fitting.{taskNo}
-use Rattle.machine_state.specs.Cells.{length-mapped}
+use Rattle.machine_state.specs.laws.Cells.{length-mapped}
 use Rattle.machine_state.specs.State.{orderOf}
 use Rattle.meaning_laws.specs.Fits.{times}
 use borrow.Author.Tests.{eq-eqb, ne-eqb}

@@ -11,4 +11,4 @@ settle-spec =
     (λ c. search needs)
     (λ c κs. search needs)
     (λ c κs. search needs)
-    (λ c. rw (c .wrapping-add-u16 .ensures, c .before .before .before .line-after .ensures)))
+    (λ c. rw (c .wrapping-add-u16 .ensures, c .before .before .before .order-after .ensures)))

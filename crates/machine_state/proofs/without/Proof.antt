@@ -1,5 +1,6 @@
 use borrow.Author.Needs.{needs}
-use Rattle.machine_state.specs.Cells.{over, keep, lap-keeps, lap-drops, length-mapped}
+use Rattle.machine_state.specs.laws.Cells.{lap-keeps, lap-drops, length-mapped}
+use Rattle.machine_state.specs.Cells.{over, keep}
 use Rattle.machine_state.specs.State.{other, noTasks}
 use borrow.Author.Tests.{eq-eqb, ne-eqb}
 use lib.ListN.{length, take}

@@ -1,5 +1,5 @@
 use borrow.Author.Needs.{needs}
-use Rattle.machine_state.specs.Cells.{length-mapped}
+use Rattle.machine_state.specs.laws.Cells.{length-mapped}
 use Rattle.machine_state.specs.State.{orderOf}
 use Rattle.machine_waiters.proofs.Laws.{count-step}
 use Rattle.machine_waiters.specs.Waiters.{countOf, waitsAt, countWaiters}

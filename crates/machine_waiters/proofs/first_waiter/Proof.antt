@@ -1,5 +1,5 @@
 use borrow.Author.Needs.{needs}
-use Rattle.machine_state.specs.Cells.{length-mapped}
+use Rattle.machine_state.specs.laws.Cells.{length-mapped}
 use Rattle.machine_state.specs.State.{taskIn}
 use Rattle.machine_waiters.proofs.Laws.{waiter-step}
 use Rattle.machine_waiters.specs.Waiters.{firstOf, matchedAt, firstWaiter}

@@ -1,7 +1,7 @@
 use mathlib.Core.Path.{refl}
 use native.Mathlib.Omega.{arith}
 use borrow.Author.Needs.{needs}
-use Rattle.text_words.specs.WordsLaws.{digit-bounds}
+use Rattle.text_words.specs.laws.Words.{digit-bounds}
 use Rattle.text_words.proofs.digit_of.Statement.{statement}
 use Rattle.text_words.proofs.digit_of.Tie as tie
 

@@ -6,7 +6,7 @@ use borrow.Author.Tests.{lt-ltb, le-ltb}
 use denote.Ref.{now}
 use lib.ListN.{length, drop}
 use Rattle.text_words.specs.Words.{isAllowed, run, firstNotAllowed}
-use Rattle.text_words.specs.WordsLaws.{run-more, run-is, run-all}
+use Rattle.text_words.specs.laws.Words.{run-more, run-is, run-all}
 use Rattle.text_words.proofs.first_not_allowed.Statement.{statement}
 use Rattle.text_words.proofs.first_not_allowed.Tie as tie
 

@@ -3,7 +3,7 @@ use borrow.Author.Needs.{needs}
 use borrow.Author.Tests.{eq-eqb, ne-eqb, lt-ltb, le-ltb}
 use denote.Ref.{now}
 use Rattle.text_words.specs.Words.{kindOf}
-use Rattle.text_words.specs.WordsLaws.{number-kind}
+use Rattle.text_words.specs.laws.Words.{number-kind}
 use Rattle.text_words.proofs.kind_of.Statement.{statement}
 use Rattle.text_words.proofs.kind_of.Tie as tie
 

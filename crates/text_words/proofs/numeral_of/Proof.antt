@@ -5,7 +5,7 @@ use borrow.Author.Needs.{needs}
 use denote.Ref.{now}
 use lib.ListN.{length, drop}
 use Rattle.text_words.specs.Words.{numberCap, numeral, decimal}
-use Rattle.text_words.specs.WordsLaws.{digit-at}
+use Rattle.text_words.specs.laws.Words.{digit-at}
 use Rattle.text_words.proofs.Laws.{decimal-step, decimal-end}
 use Rattle.text_words.proofs.numeral_of.Statement.{statement}
 use Rattle.text_words.proofs.numeral_of.Tie as tie

@@ -6,7 +6,7 @@ use borrow.Author.Tests.{eq-eqb, ne-eqb}
 use denote.Ref.{now}
 use lib.ListN.{length, drop}
 use Rattle.text_words.specs.Words.{isDigit, run, onlyDigits}
-use Rattle.text_words.specs.WordsLaws.{run-more, run-is, run-all}
+use Rattle.text_words.specs.laws.Words.{run-more, run-is, run-all}
 use Rattle.text_words.proofs.only_digits.Statement.{statement}
 use Rattle.text_words.proofs.only_digits.Tie as tie
 

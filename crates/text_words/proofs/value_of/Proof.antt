@@ -1,6 +1,6 @@
 use mathlib.Core.Path.{sym, _∙_}
 use denote.Ref.{now}
-use Rattle.text_words.specs.WordsLaws.{number-digits, kind-number, valued, valueless}
+use Rattle.text_words.specs.laws.Words.{number-digits, kind-number, valued, valueless}
 use Rattle.text_words.proofs.value_of.Statement.{statement}
 use Rattle.text_words.proofs.value_of.Tie as tie
 

@@ -3,7 +3,7 @@ use native.Mathlib.Omega.{arith}
 use borrow.Author.Needs.{needs}
 use denote.Ref.{now}
 use Rattle.text_words.specs.Words.{inWord, startAt, nextAt, bytesAt, wordAt}
-use Rattle.text_words.specs.WordsLaws.{run-bound, ended-word}
+use Rattle.text_words.specs.laws.Words.{run-bound, ended-word}
 use Rattle.text_words.proofs.word_at.Statement.{statement}
 use Rattle.text_words.proofs.word_at.Tie as tie
 

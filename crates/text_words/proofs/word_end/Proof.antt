@@ -3,7 +3,7 @@ use Prim.Native.Nat.{_+_, _-_}
 use borrow.Author.Needs.{needs}
 use lib.ListN.{length, drop}
 use Rattle.text_words.specs.Words.{inWord, run}
-use Rattle.text_words.specs.WordsLaws.{run-more, run-stop, run-end}
+use Rattle.text_words.specs.laws.Words.{run-more, run-stop, run-end}
 use Rattle.text_words.proofs.word_end.Statement.{statement}
 use Rattle.text_words.proofs.word_end.Tie as tie
 

@@ -41,8 +41,7 @@ use denote.Triple.Table.{entered, cited}
 use denote.Triple.Walked.{says, Stays, stay-none, walkOf, goes-none, Walks, ends-at, walked, walk-meets}
 use denote.Exit.{yes}
 use Rattle.thin_channel.specs.Channels.{appendedTo}
-use Rattle.thin_channel.specs.declared.Channel.{Channel}
-use Rattle.thin_channel.specs.declared.Added.{Added}
+use Rattle.thin_channel.specs.Kinds.{Channel, Added}
 use Rattle.thin_channel.proofs.Channel as T
 use Rattle.thin_channel.proofs.Channel.Laws as T′
 use Rattle.thin_channel.proofs.Added as R
@@ -153,4 +152,4 @@ append-of-spec 𝓤 H 𝓜 𝓖 𝓡 =
     entered 𝓤 H (tripleOf 𝓤 H (𝓖 .A) f.signature (f.spec 𝓤 H (𝓖 .A) (𝓜 .mem) (𝓡 .run)))
     (tables 𝓤 H 𝓜 𝓡 code.env .C) (tables 𝓤 H 𝓜 𝓡 code.env .Λ) #f code.function (code.unfolded 𝓤 H 𝓜 𝓡)
     (f-meets 𝓤 H (𝓖 .A) (givenOf 𝓤 H 𝓜 𝓖) (𝓜 .mem) (𝓡 .run) (tablesOf 𝓤 H 𝓜 (tables 𝓤 H 𝓜 𝓡 code.env))
-    (cited 𝓤 H (Append 𝓤 H (𝓖 .A) (𝓜 .mem) (𝓡 .run)) 𝓜 𝓡 code.env #append append-def.routine code.calls-lent·append (append-thm.met 𝓤 H 𝓜 𝓖 𝓡)))
+    (cited 𝓤 H (Append 𝓤 H (𝓖 .A) (𝓜 .mem) (𝓡 .run)) 𝓜 𝓡 code.env #append append-def.routine code.calls-thin-channel·append (append-thm.met 𝓤 H 𝓜 𝓖 𝓡)))

@@ -37,9 +37,7 @@ use denote.Triple.Spec.{Meets, tripleOf}
 use denote.Triple.Table.{entered, cited}
 use denote.Triple.Walked.{says, Stays, stay-ref, walkOf, goes-ref, Walks, ends-at, walked, walk-meets}
 use Rattle.thin_channel.specs.Channels.{tookFrom}
-use Rattle.thin_channel.specs.declared.Channel.{Channel}
-use Rattle.thin_channel.specs.declared.Took.{Took}
-use Rattle.thin_channel.specs.declared.Taken.{Taken}
+use Rattle.thin_channel.specs.Kinds.{Channel, Took, Taken}
 use Rattle.thin_channel.proofs.Channel as T
 use Rattle.thin_channel.proofs.Channel.Laws as T′
 use Rattle.thin_channel.proofs.Took as R
@@ -153,4 +151,4 @@ take-spec 𝓤 H 𝓜 𝓖 𝓡 =
     entered 𝓤 H (tripleOf 𝓤 H (𝓖 .A) take.signature (take.spec 𝓤 H (𝓖 .A) (𝓜 .mem) (𝓡 .run)))
     (tables 𝓤 H 𝓜 𝓡 code.env .C) (tables 𝓤 H 𝓜 𝓡 code.env .Λ) #take code.function (code.unfolded 𝓤 H 𝓜 𝓡)
     (take-meets 𝓤 H (𝓖 .A) (givenOf 𝓤 H 𝓜 𝓖) (𝓜 .mem) (𝓡 .run) (tablesOf 𝓤 H 𝓜 (tables 𝓤 H 𝓜 𝓡 code.env))
-    (cited 𝓤 H (TakeFrom 𝓤 H (𝓖 .A) (𝓜 .mem) (𝓡 .run)) 𝓜 𝓡 code.env #take-from take-from-def.routine code.calls-lent·value·take-from (take-from-thm.met 𝓤 H 𝓜 𝓖 𝓡)))
+    (cited 𝓤 H (TakeFrom 𝓤 H (𝓖 .A) (𝓜 .mem) (𝓡 .run)) 𝓜 𝓡 code.env #take-from take-from-def.routine code.calls-thin-channel·value·take-from (take-from-thm.met 𝓤 H 𝓜 𝓖 𝓡)))

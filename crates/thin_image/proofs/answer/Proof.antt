@@ -29,7 +29,7 @@ use denote.Triple.Spec.{Meets, tripleOf}
 use denote.Triple.Table.{entered}
 use denote.Triple.Walked.{says, Stays, stay-none, walkOf, goes-none, Walks, ends-at, walked, walk-meets}
 use denote.Exit.{yes}
-use Rattle.thin_image.specs.declared.Opened.{Opened}
+use Rattle.thin_image.specs.Kinds.{Opened}
 use Rattle.thin_image.proofs.Opened as T
 use Rattle.thin_image.proofs.Opened.Laws as T′
 use Rattle.thin_image.proofs.Held as K

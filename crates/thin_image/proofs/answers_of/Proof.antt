@@ -44,15 +44,7 @@ use denote.Exit.{yes}
 use denote.Triple.Clauses.{ensured, lasts}
 use Rattle.image_check.specs.Check.{checked}
 use Rattle.thin_image.specs.Asked.{heldOf, openedOf, rowAsked, capacityAsked, firstRowAsked, rowOf, capacityOf, firstRowOf, answersOf}
-use Rattle.meaning.specs.declared.Row.{Row}
-use Rattle.meaning.specs.declared.Chan.{Chan}
-use Rattle.meaning.specs.declared.Task.{Task}
-use Rattle.image_check.specs.declared.Checked.{Checked}
-use Rattle.thin_image.specs.declared.RowAnswer.{RowAnswer}
-use Rattle.thin_image.specs.declared.CapacityAnswer.{CapacityAnswer}
-use Rattle.thin_image.specs.declared.FirstRowAnswer.{FirstRowAnswer}
-use Rattle.thin_image.specs.declared.Answers.{Answers}
-use Rattle.thin_image.specs.declared.Opened.{Opened}
+use Rattle.thin_image.specs.Kinds.{Row, Chan, Task, Checked, RowAnswer, CapacityAnswer, FirstRowAnswer, Answers, Opened}
 use Rattle.meaning.proofs.Row as N
 use Rattle.meaning.proofs.Row.Laws as N′
 use Rattle.meaning.proofs.Chan as X
@@ -253,8 +245,8 @@ answers-of-spec 𝓤 H 𝓜 𝓖 𝓡 =
     entered 𝓤 H (tripleOf 𝓤 H (𝓖 .A) f.signature (f.spec 𝓤 H (𝓖 .A) (𝓜 .mem) (𝓡 .run)))
     (tables 𝓤 H 𝓜 𝓡 code.env .C) (tables 𝓤 H 𝓜 𝓡 code.env .Λ) #f code.function (code.unfolded 𝓤 H 𝓜 𝓡)
     (f-meets 𝓤 H (𝓖 .A) (givenOf 𝓤 H 𝓜 𝓖) (𝓜 .mem) (𝓡 .run) (tablesOf 𝓤 H 𝓜 (tables 𝓤 H 𝓜 𝓡 code.env))
-    (cited 𝓤 H (Open 𝓤 H (𝓖 .A) (𝓜 .mem) (𝓡 .run)) 𝓜 𝓡 code.env #open opening-def.routine code.calls-opened·open (opening-thm.met 𝓤 H 𝓜 𝓖 𝓡))
-    (cited 𝓤 H (Check 𝓤 H (𝓖 .A) (𝓜 .mem) (𝓡 .run)) 𝓜 𝓡 code.env #check ask-check-def.routine code.calls-opened·answer (ask-check-thm.met 𝓤 H 𝓜 𝓖 𝓡))
-    (cited 𝓤 H (Asks rows 𝓤 H (𝓖 .A)) 𝓜 𝓡 code.env #row ask-row-def.routine code.calls-opened·row (ask-row-thm.met 𝓤 H 𝓜 𝓖 𝓡))
-    (cited 𝓤 H (Asks capacities 𝓤 H (𝓖 .A)) 𝓜 𝓡 code.env #capacity ask-capacity-def.routine code.calls-opened·capacity (ask-capacity-thm.met 𝓤 H 𝓜 𝓖 𝓡))
-    (cited 𝓤 H (Asks starts 𝓤 H (𝓖 .A)) 𝓜 𝓡 code.env #start ask-start-def.routine code.calls-opened·first-row (ask-start-thm.met 𝓤 H 𝓜 𝓖 𝓡)))
+    (cited 𝓤 H (Open 𝓤 H (𝓖 .A) (𝓜 .mem) (𝓡 .run)) 𝓜 𝓡 code.env #open opening-def.routine code.calls-thin-image·open (opening-thm.met 𝓤 H 𝓜 𝓖 𝓡))
+    (cited 𝓤 H (Check 𝓤 H (𝓖 .A) (𝓜 .mem) (𝓡 .run)) 𝓜 𝓡 code.env #check ask-check-def.routine code.calls-thin-image·answer (ask-check-thm.met 𝓤 H 𝓜 𝓖 𝓡))
+    (cited 𝓤 H (Asks rows 𝓤 H (𝓖 .A)) 𝓜 𝓡 code.env #row ask-row-def.routine code.calls-thin-image·row (ask-row-thm.met 𝓤 H 𝓜 𝓖 𝓡))
+    (cited 𝓤 H (Asks capacities 𝓤 H (𝓖 .A)) 𝓜 𝓡 code.env #capacity ask-capacity-def.routine code.calls-thin-image·capacity (ask-capacity-thm.met 𝓤 H 𝓜 𝓖 𝓡))
+    (cited 𝓤 H (Asks starts 𝓤 H (𝓖 .A)) 𝓜 𝓡 code.env #start ask-start-def.routine code.calls-thin-image·first-row (ask-start-thm.met 𝓤 H 𝓜 𝓖 𝓡)))

@@ -1,70 +1,54 @@
 use native.Mathlib.Omega.{arith}
-use Rattle.translate.specs.Outcome.{is-job, refused-as, words-read, in-limits, image-size, too-short, translated-as}
+use Rattle.translate.specs.laws.Read.{is-job, refused-as, words-read, in-limits, image-size, too-short, translated-as}
 use borrow.Author.Needs.{needs}
 use Rattle.translate.proofs.translate.Statement.{statement}
 use Rattle.translate.proofs.translate.Tie as tie
 
--- src/lib.rt:23:11
 read-requires : tie.Need-read-requires
 read-requires c κs = search needs
 
--- src/lib.rt:24:26
 enum-known-why : tie.Need-enum-known-why
 enum-known-why c = search needs
 
--- src/lib.rt:25:22
 enum-known-rows : tie.Need-enum-known-rows
 enum-known-rows c = search needs
 
--- src/lib.rt:26:31
 cast-length : tie.Need-cast-length
 cast-length c = search needs
 
--- src/lib.rt:26:26
 mul-length : tie.Need-mul-length
 mul-length c = search needs
 
--- src/lib.rt:26:49
 cast-length-2 : tie.Need-cast-length-2
 cast-length-2 c = search needs
 
--- src/lib.rt:26:26
 add-length : tie.Need-add-length
 add-length c = search needs
 
--- src/lib.rt:26:75
 cast-length-3 : tie.Need-cast-length-3
 cast-length-3 c = search needs
 
--- src/lib.rt:26:70
 mul-length-2 : tie.Need-mul-length-2
 mul-length-2 c = search needs
 
--- src/lib.rt:26:26
 add-length-2 : tie.Need-add-length-2
 add-length-2 c = search needs
 
--- src/lib.rt:26:26
 add-length-3 : tie.Need-add-length-3
 add-length-3 c = search needs
 
--- src/lib.rt:28:17
 returns : tie.Need-returns
 returns c = too-short _ (is-job _ (c .before .before .rows .given .1) (c .before .before .before .before .read .ensures)) _ (c .if1 .taken)
 
--- src/lib.rt:30:13
 lay-image-requires : tie.Need-lay-image-requires
 lay-image-requires c κs = in-limits _ (is-job _ (c .before .before .before .rows .given .1) (c .before .before .before .before .before .read .ensures))
 
--- src/lib.rt:20:1
 returns-2 : tie.Need-returns-2
 returns-2 c = refused-as _ _ (c .before .why .given .1) (c .before .before .before .read .ensures)
 
--- src/lib.rt:20:1
 same-length : tie.Need-same-length
 same-length c = search needs
 
--- src/lib.rt:20:1
 returns-3 : tie.Need-returns-3
 returns-3 c = let t = is-job _ (c .before .before .before .before .before .before .rows .given .1) (c .before .before .before .before .before .before .before .before .read .ensures) in
     let k = c .before .before .before .before .if1 .left in

@@ -5,23 +5,18 @@ use Rattle.bench.proofs.translation.bench_check.Reads as reads
 use Rattle.bench.proofs.translation.bench_check.Lts as lts
 use Rattle.image_check.proofs.check.Reads as check-reads
 
--- src/translation.rt:28:11
 check-requires : tie.Need-check-requires
 check-requires c κs = search needs
 
--- src/translation.rt:29:26
 enum-told : tie.Need-enum-told
 enum-told c = search needs
 
--- src/translation.rt:30:26
 enum-known-number : tie.Need-enum-known-number
 enum-known-number c = search needs
 
--- src/translation.rt:24:1
 returns : tie.Need-returns
 returns c = rw (← c .before .before .check .ensures, c .enum-told .given .1)
 
--- src/translation.rt:24:1
 returns-2 : tie.Need-returns-2
 returns-2 c = rw (← c .before .before .before .check .ensures, c .before .number .given .1)
 

@@ -2,7 +2,7 @@ use mathlib.Core.Path.{_≡_, refl, _∙_}
 use mathlib.Core.List.{[], _∷_}
 use types.Run.{OneOf, miss}
 use denote.Enum.Declared.{tagOf}
-use Rattle.translate.specs.declared.Translated.{Translated}
+use Rattle.bench.specs.Kinds.{Translated}
 use Rattle.translate.proofs.Translated.{the-type}
 use Rattle.bench.specs.Translation.{lengthOf}
 use borrow.Author.Needs.{needs}
@@ -16,31 +16,24 @@ no-length : (v : Translated) → OneOf (1 ∷ []) (tagOf the-type v) → 0 ≡ l
 no-length (Translated.Image n) h = absurd (miss (1 ∷ []) 0 tt h)
 no-length (Translated.Refused number place) h = refl
 
--- src/translation.rt:17:11
 translate-requires : tie.Need-translate-requires
 translate-requires c κs = search needs
 
--- src/translation.rt:18:27
 enum-known-n : tie.Need-enum-known-n
 enum-known-n c = search needs
 
--- src/translation.rt:19:38
 enum-told : tie.Need-enum-told
 enum-told c = search needs
 
--- src/translation.rt:13:1
 same-length : tie.Need-same-length
 same-length c = search needs
 
--- src/translation.rt:13:1
 returns : tie.Need-returns
 returns c = (rw (← c .before .before .before .before .before .translate .ensures .0, c .before .n .given .1), c .before .before .before .before .before .translate .ensures .1)
 
--- src/translation.rt:13:1
 same-length-2 : tie.Need-same-length-2
 same-length-2 c = search needs
 
--- src/translation.rt:13:1
 returns-2 : tie.Need-returns-2
 returns-2 c = (no-length (c .before .before .before .before .translate .result) (c .before .match .keys2) ∙ rw (c .before .before .before .before .translate .ensures .0), c .before .before .before .before .translate .ensures .1)
 

@@ -11,11 +11,11 @@ use Rattle.image_rows.proofs.bytes.body_of.Tie as tie
 
 returns : tie.Need-returns
 unfolding bodyOf distance
-returns c = let e : (length (now (c .before .before .before .before .args .image)) - 8) - c .before .word-at .result ≡ 0 = omega arith in rw (← c .before .before .trailer-of .ensures, ← c .before .word-at .ensures, e)
+returns c = let e : (length (now (c .before .before .before .before .args .image)) - 8) - c .before .two-at .result ≡ 0 = omega arith in rw (← c .before .before .trailer-of .ensures, ← c .before .two-at .ensures, e)
 
 returns-2 : tie.Need-returns-2
 unfolding bodyOf distance
-returns-2 c = rw (← c .before .before .before .trailer-of .ensures, ← c .before .before .word-at .ensures) (part-to-end (now (c .before .before .before .before .before .args .image)) ((length (now (c .before .before .before .before .before .args .image)) - 8) - c .before .before .word-at .result))
+returns-2 c = rw (← c .before .before .before .trailer-of .ensures, ← c .before .before .two-at .ensures) (part-to-end (now (c .before .before .before .before .before .args .image)) ((length (now (c .before .before .before .before .before .args .image)) - 8) - c .before .before .two-at .result))
 
 pub body-of-spec : {M : Type 1} → statement M
 body-of-spec =

@@ -5,7 +5,7 @@ use Rattle.image_rows.proofs.bytes.counts_in.Tie as tie
 
 returns : tie.Need-returns
 unfolding countsIn
-returns c = rw (c .word-at2 .ensures, c .before .byte-at2 .ensures, c .before .before .byte-at .ensures, c .before .before .before .word-at .ensures)
+returns c = rw (c .two-at2 .ensures, c .before .byte-at2 .ensures, c .before .before .byte-at .ensures, c .before .before .before .two-at .ensures)
 
 pub counts-in-spec : {M : Type 1} → statement M
 counts-in-spec =

@@ -24,4 +24,4 @@ fields-at-spec =
     (λ c. search needs)
     (λ c. search needs)
     (λ c κs. search needs)
-    (λ c. rw (c .word-of3 .ensures, c .before .before .before .word-of2 .ensures, c .before .before .before .before .before .before .word-of .ensures)))
+    (λ c. rw (c .two-of3 .ensures, c .before .before .before .two-of2 .ensures, c .before .before .before .before .before .before .two-of .ensures)))

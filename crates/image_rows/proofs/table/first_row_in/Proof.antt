@@ -5,7 +5,7 @@ use Rattle.image_rows.proofs.table.first_row_in.Tie as tie
 
 returns : tie.Need-returns
 unfolding firstRowIn
-returns c = rw (c .word-at .ensures)
+returns c = rw (c .two-at .ensures)
 
 pub first-row-in-spec : {M : Type 1} → statement M
 first-row-in-spec =

@@ -1,7 +1,6 @@
 use Rattle.machine_rules.proofs.Laws.{close-under}
 use Rattle.machine_state.specs.State.{applied}
 use denote.Ref.{now}
-use Prim.Native.Nat.{_-_}
 use mathlib.Core.Path.{ap, _∙_}
 use borrow.Author.Needs.{needs}
 use Rattle.machine_rules.proofs.closing.close_idle.Statement.{statement}

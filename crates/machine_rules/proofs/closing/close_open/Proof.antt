@@ -1,7 +1,7 @@
 use Rattle.machine_rules.proofs.Laws.{left-below, close-idly, close-woken}
-use Rattle.machine_waiters.specs.declared.Side.the-variants.{Sending}
+use Rattle.machine_rules.specs.Kinds.{Sending}
 use Rattle.machine_waiters.specs.Waiters.{countWaiters}
-use Rattle.machine_state.specs.Cells.{length-mapped}
+use Rattle.machine_state.specs.laws.Cells.{length-mapped}
 use Rattle.machine_state.specs.State.{applied}
 use denote.Ref.{now}
 use lib.ListN.{length}

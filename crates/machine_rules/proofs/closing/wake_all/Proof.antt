@@ -3,7 +3,8 @@ use Rattle.machine_waiters.specs.Waiters.{isOffer}
 use Rattle.machine_rules.proofs.Laws.{woken-step}
 use Rattle.machine_rules.specs.Rules.{idle, wokenTasks}
 use Rattle.machine_state.specs.State.{orderOf, noTasks}
-use Rattle.machine_state.specs.Cells.{over, keep, lap-keeps, lap-drops, length-mapped}
+use Rattle.machine_state.specs.laws.Cells.{lap-keeps, lap-drops, length-mapped}
+use Rattle.machine_state.specs.Cells.{over, keep}
 use mathlib.Core.List.{[]}
 use lib.ListN.{length, take, drop, length-take, drop-of-length-le, length-set}
 use denote.Ref.{now}

@@ -1,7 +1,7 @@
 use Rattle.machine_rules.proofs.Laws.{attempt-is}
 use Rattle.machine_rules.specs.Rules.{orWait}
 use denote.Ref.{now}
-use mathlib.Core.Path.{ap, _∙_}
+use mathlib.Core.Path.{ap}
 use borrow.Author.Needs.{needs}
 use Rattle.machine_rules.proofs.ops.do_op.Statement.{statement}
 use Rattle.machine_rules.proofs.ops.do_op.Tie as tie

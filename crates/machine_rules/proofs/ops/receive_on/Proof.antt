@@ -1,8 +1,8 @@
 use Rattle.machine_rules.specs.Rules.{receivesOn}
 use borrow.Author.Tests.{lt-ltb, le-ltb}
-use Rattle.machine_waiters.specs.declared.Partner.{Partner}
-use Rattle.machine_waiters.specs.declared.Side.the-variants.{Sending}
-use Rattle.machine_waiters.specs.Waiters.{firstWaiter, partner-stands}
+use Rattle.machine_rules.specs.Kinds.{Partner, Sending}
+use Rattle.machine_waiters.specs.laws.Partners.{partner-stands}
+use Rattle.machine_waiters.specs.Waiters.{firstWaiter}
 use denote.Ref.{now}
 use mathlib.Core.Path.{_≡_, ap}
 use borrow.Author.Needs.{needs}

@@ -1,5 +1,4 @@
-use Rattle.machine_waiters.specs.declared.Partner.{Partner}
-use Rattle.machine_waiters.specs.declared.Side.the-variants.{Receiving}
+use Rattle.machine_rules.specs.Kinds.{Partner, Receiving}
 use Rattle.machine_waiters.specs.Waiters.{firstWaiter}
 use denote.Ref.{now}
 use mathlib.Core.Path.{_≡_, ap}

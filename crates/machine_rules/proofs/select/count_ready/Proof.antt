@@ -2,7 +2,7 @@ use borrow.Author.Needs.{needs}
 use Rattle.machine_rules.proofs.Laws.{kept-count}
 use Rattle.machine_rules.specs.Rules.{rowReady, readyRows}
 use Rattle.machine_state.specs.Cells.{keep}
-use Rattle.meaning.specs.Bytes.{listed}
+use Rattle.meaning.specs.Bytes.{tabulate}
 use lib.ListN.{length}
 use denote.Ref.{now}
 use native.Mathlib.Omega.{arith}
@@ -14,7 +14,7 @@ use Rattle.machine_rules.proofs.select.count_ready.Statement.{statement
 use Rattle.machine_rules.proofs.select.count_ready.Tie as tie
 
 abbrev Inv-loop : tie.InvT-loop
-Inv-loop body rows s k first i₀ w₀ i w = (i ≤ k) × ((w ≤ i) × ((first ≤ 65536) × (length (readyRows body rows s k first) ≡ w + length (keep (rowReady body rows s) (listed (λ j. j) (k - i) (first + i))))))
+Inv-loop body rows s k first i₀ w₀ i w = (i ≤ k) × ((w ≤ i) × ((first ≤ 65536) × (length (readyRows body rows s k first) ≡ w + length (keep (rowReady body rows s) (tabulate (λ j. j) (k - i) (first + i))))))
 
 abbrev μ-loop : tie.MeasureT-loop
 μ-loop body rows s k first i₀ w₀ i w = k - i
@@ -38,7 +38,7 @@ loop-again-2 c =
     (search needs, (search needs, (l .inv .1 .1 .0, omega (arith, q, l .inv .1 .1 .1))))
 
 returns : tie.Need-returns Inv-loop μ-loop
-unfolding listed
+unfolding tabulate
 returns c =
     let a = c .before .before .before .before .args in
     let l = c .before .loop in

@@ -2,7 +2,7 @@ use borrow.Author.Needs.{needs}
 use Rattle.machine_rules.proofs.Laws.{kept-here, kept-next, kept-past}
 use Rattle.machine_rules.specs.Rules.{rowReady, readyRows}
 use Rattle.machine_state.specs.Cells.{keep}
-use Rattle.meaning.specs.Bytes.{listed}
+use Rattle.meaning.specs.Bytes.{tabulate}
 use lib.ListN.{getD}
 use denote.Ref.{now}
 use native.Mathlib.Omega.{arith}
@@ -13,7 +13,7 @@ use Rattle.machine_rules.proofs.select.nth_ready.Statement.{statement}
 use Rattle.machine_rules.proofs.select.nth_ready.Tie as tie
 
 abbrev Inv-loop : tie.InvT-loop
-Inv-loop body rows s k nth first i₀ left₀ i left = (i ≤ k) × ((first ≤ 65536) × (getD (readyRows body rows s k first) nth 0 ≡ getD (keep (rowReady body rows s) (listed (λ j. j) (k - i) (first + i))) left 0))
+Inv-loop body rows s k nth first i₀ left₀ i left = (i ≤ k) × ((first ≤ 65536) × (getD (readyRows body rows s k first) nth 0 ≡ getD (keep (rowReady body rows s) (tabulate (λ j. j) (k - i) (first + i))) left 0))
 
 abbrev μ-loop : tie.MeasureT-loop
 μ-loop body rows s k nth first i₀ left₀ i left = k - i
@@ -41,7 +41,7 @@ loop-again-2 c =
     (search needs, (l .inv .1 .0, l .inv .1 .1 ∙ kept-past (rowReady (now (a .body)) (a .rows) (a .s)) (a .k) (l .i) (a .row .0 + 1) (search needs) (l .left) (sym (c .before .row-ready .ensures) ∙ c .if1 .left)))
 
 returns-2 : tie.Need-returns-2 Inv-loop μ-loop
-unfolding listed
+unfolding tabulate
 returns-2 c =
     let a = c .before .before .before .before .args in
     let l = c .before .loop in

@@ -1,5 +1,6 @@
 use borrow.Author.Needs.{needs}
-use Rattle.machine_state.specs.Cells.{over, shift-lap, tail-take}
+use Rattle.machine_state.specs.laws.Cells.{shift-lap, tail-take}
+use Rattle.machine_state.specs.Cells.{over}
 use Rattle.machine_state.specs.State.{noValues}
 use lib.ListN.{length, take, drop}
 use native.Mathlib.Omega.{arith}

@@ -6,7 +6,7 @@ use lib.ListN.{length}
 use Rattle.meaning.specs.Numbers.{channelLimit}
 use Rattle.text_reader.specs.Reading.{chansFrom}
 use Rattle.text_reader.specs.Answers.{counted}
-use Rattle.text_reader.specs.JobLaws.{chans-step, chans-end, chans-refused}
+use Rattle.text_reader.specs.laws.Jobs.{chans-step, chans-end, chans-refused}
 use Rattle.text_reader.proofs.jobs.read_chans.Statement.{statement}
 use Rattle.text_reader.proofs.jobs.read_chans.Tie as tie
 

@@ -1,5 +1,5 @@
 use borrow.Author.Needs.{needs}
-use Rattle.text_reader.specs.JobLaws.{job-refused, tasks-cut, no-task, job-done}
+use Rattle.text_reader.specs.laws.Jobs.{job-refused, tasks-cut, no-task, job-done}
 use Rattle.text_reader.proofs.jobs.read_job.Statement.{statement}
 use Rattle.text_reader.proofs.jobs.read_job.Tie as tie
 

@@ -5,7 +5,7 @@ use borrow.Author.Needs.{needs}
 use Rattle.meaning.specs.Numbers.{rowLimit}
 use Rattle.text_reader.specs.Reading.{taskBy}
 use Rattle.text_reader.specs.Answers.{told}
-use Rattle.text_reader.specs.PartLaws.{bind-done, bind-stop}
+use Rattle.text_reader.specs.laws.Parts.{bind-done, bind-stop}
 use Rattle.text_reader.proofs.Stops.{stops}
 use Rattle.text_reader.proofs.jobs.read_task.Statement.{statement}
 use Rattle.text_reader.proofs.jobs.read_task.Tie as tie

@@ -5,7 +5,7 @@ use denote.Ref.{now}
 use Rattle.meaning.specs.Text.{Body}
 use Rattle.text_reader.specs.Reading.{taskEnd}
 use Rattle.text_reader.specs.Answers.{told}
-use Rattle.text_reader.specs.PartLaws.{told-out}
+use Rattle.text_reader.specs.laws.Parts.{told-out}
 use Rattle.text_reader.proofs.jobs.read_task_end.Statement.{statement}
 use Rattle.text_reader.proofs.jobs.read_task_end.Tie as tie
 

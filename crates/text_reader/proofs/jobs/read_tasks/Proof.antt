@@ -6,7 +6,7 @@ use lib.ListN.{length}
 use Rattle.meaning.specs.Numbers.{taskLimit}
 use Rattle.text_reader.specs.Reading.{tasksFrom}
 use Rattle.text_reader.specs.Answers.{counted}
-use Rattle.text_reader.specs.JobLaws.{tasks-step, tasks-end, tasks-refused}
+use Rattle.text_reader.specs.laws.Jobs.{tasks-step, tasks-end, tasks-refused}
 use Rattle.text_reader.proofs.jobs.read_tasks.Statement.{statement}
 use Rattle.text_reader.proofs.jobs.read_tasks.Tie as tie
 

@@ -9,9 +9,9 @@ use Rattle.meaning.specs.Text.{range, repeat, ifok, select, empty}
 use Rattle.text_words.proofs.word_at.Reads as word-at-reads
 use Rattle.text_reader.specs.Reading.{bodyFrom}
 use Rattle.text_reader.specs.Answers.{told, counted, countFrom, self}
-use Rattle.text_reader.specs.PartLaws.{done-told, nothing-told, refused-told, bind-done, bind-stop}
-use Rattle.text_reader.specs.HeadLaws.{head-told, head-stmt}
-use Rattle.text_reader.specs.BodyLaws.{second-else, second-end, last-default, last-none, no-case, case-over, case-full, stmt-grows, body-grows, body-step, body-end, body-refused, count-step, count-end, count-refused, case-grows, cases-grow, cases-told, cases-refused, case-refused, case-misplaced, case-got}
+use Rattle.text_reader.specs.laws.Parts.{done-told, nothing-told, refused-told, bind-done, bind-stop}
+use Rattle.text_reader.specs.laws.Heads.{head-told, head-stmt}
+use Rattle.text_reader.specs.laws.Bodies.{second-else, second-end, last-default, last-none, no-case, case-over, case-full, stmt-grows, body-grows, body-step, body-end, body-refused, count-step, count-end, count-refused, case-grows, cases-grow, cases-told, cases-refused, case-refused, case-misplaced, case-got}
 use Rattle.text_reader.proofs.Stops.{stops}
 use Rattle.text_reader.proofs.statements.+read_block+read_body+read_case+read_cases+read_ifok+read_last+read_second+read_select+read_stmt.{statement}
 use Rattle.text_reader.proofs.statements.+read_block+read_body+read_case+read_cases+read_ifok+read_last+read_second+read_select+read_stmt.Tie.{close}

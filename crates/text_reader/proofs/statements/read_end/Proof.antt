@@ -5,7 +5,7 @@ use denote.Ref.{now}
 use Rattle.meaning.specs.Text.{Stmt}
 use Rattle.text_reader.specs.Reading.{closedBy}
 use Rattle.text_reader.specs.Answers.{told}
-use Rattle.text_reader.specs.PartLaws.{told-out}
+use Rattle.text_reader.specs.laws.Parts.{told-out}
 use Rattle.text_reader.proofs.statements.read_end.Statement.{statement}
 use Rattle.text_reader.proofs.statements.read_end.Tie as tie
 

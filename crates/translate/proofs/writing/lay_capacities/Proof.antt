@@ -8,7 +8,7 @@ use lib.ListN.{length}
 use lib.Seq.{sets}
 use Rattle.meaning.specs.Numbers.{channelLimit, capacityLimit}
 use Rattle.text_reader.specs.Reading.{got, chansFrom}
-use Rattle.translate.specs.Channels.{chan-turn, turn-capacities, nothing-left, number-within, same-number, no-number}
+use Rattle.translate.specs.laws.Channels.{chan-lap, lap-capacities, nothing-left, number-within, same-number, no-number}
 use Rattle.translate.proofs.Stops.{not-number}
 use Rattle.translate.proofs.writing.lay_capacities.Statement.{statement}
 use Rattle.translate.proofs.writing.lay_capacities.Tie as tie
@@ -22,59 +22,45 @@ Inv-loop text channels base out₀ at₀ n₀ out at n =
 abbrev μ-loop : tie.MeasureT-loop
 μ-loop text channels base out₀ at₀ n₀ out at n = channels - n
 
--- src/writing.rt:23:5
 loop-holds : tie.Need-loop-holds Inv-loop μ-loop
 loop-holds c = (omega arith, refl, λ ns a r e q. (ns, e, omega arith, rw add-zero))
 
--- src/writing.rt:24:13
 word-at-requires : tie.Need-word-at-requires Inv-loop μ-loop
 word-at-requires c κs = search needs
 
--- src/writing.rt:25:13
 read-number-requires : tie.Need-read-number-requires Inv-loop μ-loop
 read-number-requires c κs = search needs
 
--- src/writing.rt:26:29
 enum-known-r : tie.Need-enum-known-r Inv-loop μ-loop
 enum-known-r c = search needs
 
--- src/writing.rt:27:13
 enum-told : tie.Need-enum-told Inv-loop μ-loop
 enum-told c = search needs
 
--- src/writing.rt:27:13
 same-length : tie.Need-same-length Inv-loop μ-loop
 same-length c = search needs
 
--- src/writing.rt:27:13
 returns : tie.Need-returns Inv-loop μ-loop
-returns c = λ ns a r e q. let z = c .before .before .before .before .before .loop .inv .2 ns a r e q in let y = z .2 in let k = c .before .before .before .before .loop-test .taken in let t = chan-turn _ (channelLimit - c .before .before .before .before .before .loop .n) (c .before .before .before .before .before .loop .at) (z .0) (omega arith) (c .before .before .before .word-at .ensures) (z .1) in absurd (no-number _ capacityLimit _ (c .before .before .read-number .result) (not-number (c .before .before .read-number .result) (c .before .match .keys2)) (c .before .before .read-number .ensures) (t .is))
+returns c = λ ns a r e q. let z = c .before .before .before .before .before .loop .inv .2 ns a r e q in let y = z .2 in let k = c .before .before .before .before .loop-test .taken in let t = chan-lap _ (channelLimit - c .before .before .before .before .before .loop .n) (c .before .before .before .before .before .loop .at) (z .0) (omega arith) (c .before .before .before .word-at .ensures) (z .1) in absurd (no-number _ capacityLimit _ (c .before .before .read-number .result) (not-number (c .before .before .read-number .result) (c .before .match .keys2)) (c .before .before .read-number .ensures) (t .is))
 
--- src/writing.rt:29:31
 cast-put-byte : tie.Need-cast-put-byte Inv-loop μ-loop
 cast-put-byte c = search needs
 
--- src/writing.rt:29:23
 add-put-byte : tie.Need-add-put-byte Inv-loop μ-loop
 add-put-byte c = omega arith
 
--- src/writing.rt:29:44
 cast-put-byte-2 : tie.Need-cast-put-byte-2 Inv-loop μ-loop
 cast-put-byte-2 c = let k = number-within _ capacityLimit _ (c .before .before .r .given .1) (c .before .before .before .before .read-number .ensures) in omega arith
 
--- src/writing.rt:29:9
 put-byte-requires : tie.Need-put-byte-requires Inv-loop μ-loop
 put-byte-requires c κs = search needs
 
--- src/writing.rt:31:13
 add-n : tie.Need-add-n Inv-loop μ-loop
 add-n c = omega arith
 
--- src/writing.rt:23:5
 loop-less : tie.Need-loop-less Inv-loop μ-loop
 loop-less c = omega arith
 
--- src/writing.rt:23:5
 loop-again : tie.Need-loop-again Inv-loop μ-loop
 loop-again c = (
   omega arith,
@@ -83,19 +69,17 @@ loop-again c = (
       let z = c .before .before .before .before .before .before .before .before .before .before .loop .inv .2 ns a t e q in
       let y = z .2 in
       let k = c .before .before .before .before .before .before .before .before .before .loop-test .taken in
-      let w = chan-turn _ (channelLimit - c .before .before .before .before .before .before .before .before .before .before .loop .n) (c .before .before .before .before .before .before .before .before .before .before .loop .at) (z .0) (omega arith) (c .before .before .before .before .before .before .before .before .word-at .ensures) (z .1) in
+      let w = chan-lap _ (channelLimit - c .before .before .before .before .before .before .before .before .before .before .loop .n) (c .before .before .before .before .before .before .before .before .before .before .loop .at) (z .0) (omega arith) (c .before .before .before .before .before .before .before .before .word-at .ensures) (z .1) in
       let u = same-number _ capacityLimit _ (c .before .before .before .before .before .r .given .1) (c .before .before .before .before .before .before .before .read-number .ensures) (w .is) in
       let f = w .left-is in
       let p : w .fewer ≡ channelLimit - (c .before .before .before .before .before .before .before .before .before .before .loop .n + 1) = omega arith in
       let l : length (z .0) ≡ suc (length (w .rest)) = ap length (w .whole) in
-      (w .rest, rw (← p, u .1) (w .rest-is), omega arith, turn-capacities w _ _ (c .before .before .before .before .before .before .before .before .before .before .loop .n) (u .0) (c .before .before .put-byte .ensures) ∙ z .3),
+      (w .rest, rw (← p, u .1) (w .rest-is), omega arith, lap-capacities w _ _ (c .before .before .before .before .before .before .before .before .before .before .loop .n) (u .0) (c .before .before .put-byte .ensures) ∙ z .3),
 )
 
--- src/writing.rt:17:1
 same-length-2 : tie.Need-same-length-2 Inv-loop μ-loop
 same-length-2 c = search needs
 
--- src/writing.rt:17:1
 returns-2 : tie.Need-returns-2 Inv-loop μ-loop
 returns-2 c = λ ns a r e q. let z = c .before .loop .inv .2 ns a r e q in let y = z .2 in let k = c .loop-test .left in nothing-left (z .0) _ _ (omega arith) ∙ z .3
 

@@ -1,63 +1,49 @@
 use Rattle.translate_rows.proofs.Stops.{not-counted}
-use Rattle.translate.specs.Parts.{job-parts, tasks-from, tasks-place, chans-there}
-use Rattle.translate.specs.Joined.{joined}
+use Rattle.translate.specs.laws.Sections.{job-parts, tasks-from, tasks-place, chans-there}
+use Rattle.translate.specs.laws.Joined.{joined}
 use borrow.Author.Needs.{needs}
 use Rattle.translate.proofs.writing.lay_image.Statement.{statement}
 use Rattle.translate.proofs.writing.lay_image.Tie as tie
 
--- src/writing.rt:40:9
 read-chans-requires : tie.Need-read-chans-requires
 read-chans-requires c κs = search needs
 
--- src/writing.rt:41:23
 enum-known-chans : tie.Need-enum-known-chans
 enum-known-chans c = search needs
 
--- src/writing.rt:42:9
 enum-told : tie.Need-enum-told
 enum-told c = search needs
 
--- src/writing.rt:42:9
 returns : tie.Need-returns
 returns c = λ j a e qc qt l. absurd (chans-there _ (not-counted (c .before .before .read-chans .result) (c .before .match .keys2)) (c .before .before .read-chans .ensures) (job-parts _ j a _ e .chans))
 
--- src/writing.rt:44:22
 mul-capacities : tie.Need-mul-capacities
 mul-capacities c = search needs
 
--- src/writing.rt:45:18
 add-firsts : tie.Need-add-firsts
 add-firsts c = search needs
 
--- src/writing.rt:46:28
 mul-trailer : tie.Need-mul-trailer
 mul-trailer c = search needs
 
--- src/writing.rt:46:19
 add-trailer : tie.Need-add-trailer
 add-trailer c = search needs
 
--- src/writing.rt:47:5
 lay-tasks-requires : tie.Need-lay-tasks-requires
 lay-tasks-requires c κs = search needs
 
--- src/writing.rt:48:5
 lay-capacities-requires : tie.Need-lay-capacities-requires
 lay-capacities-requires c κs = search needs
 
--- src/writing.rt:49:5
 lay-firsts-requires : tie.Need-lay-firsts-requires
 lay-firsts-requires c κs = search needs
 
--- src/writing.rt:50:5
 put-trailer-requires : tie.Need-put-trailer-requires
 put-trailer-requires c κs = search needs
 
--- src/writing.rt:36:1
 same-length : tie.Need-same-length
 same-length c = search needs
 
--- src/writing.rt:36:1
 returns-2 : tie.Need-returns-2
 returns-2 c = λ j a e qc qt l.
     let p = job-parts _ j a _ e in

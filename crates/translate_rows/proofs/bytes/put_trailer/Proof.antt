@@ -3,71 +3,54 @@ use borrow.Author.Needs.{needs}
 use Rattle.translate_rows.proofs.bytes.put_trailer.Statement.{statement}
 use Rattle.translate_rows.proofs.bytes.put_trailer.Tie as tie
 
--- src/bytes.rt:30:5
 put-two-requires : tie.Need-put-two-requires
 put-two-requires c κs = search needs
 
--- src/bytes.rt:31:19
 add-put-byte : tie.Need-add-put-byte
 add-put-byte c = search needs
 
--- src/bytes.rt:31:5
 put-byte-requires : tie.Need-put-byte-requires
 put-byte-requires c κs = search needs
 
--- src/bytes.rt:32:19
 add-put-byte-2 : tie.Need-add-put-byte-2
 add-put-byte-2 c = search needs
 
--- src/bytes.rt:32:5
 put-byte-requires-2 : tie.Need-put-byte-requires-2
 put-byte-requires-2 c κs = search needs
 
--- src/bytes.rt:33:18
 add-put-two : tie.Need-add-put-two
 add-put-two c = search needs
 
--- src/bytes.rt:33:25
 mul-put-two : tie.Need-mul-put-two
 mul-put-two c = search needs
 
--- src/bytes.rt:33:25
 add-put-two-2 : tie.Need-add-put-two-2
 add-put-two-2 c = search needs
 
--- src/bytes.rt:33:56
 mul-put-two-2 : tie.Need-mul-put-two-2
 mul-put-two-2 c = search needs
 
--- src/bytes.rt:33:25
 add-put-two-3 : tie.Need-add-put-two-3
 add-put-two-3 c = search needs
 
--- src/bytes.rt:33:5
 put-two-requires-2 : tie.Need-put-two-requires-2
 put-two-requires-2 c κs = search needs
 
--- src/bytes.rt:34:19
 add-put-byte-3 : tie.Need-add-put-byte-3
 add-put-byte-3 c = search needs
 
--- src/bytes.rt:34:5
 put-byte-requires-3 : tie.Need-put-byte-requires-3
 put-byte-requires-3 c κs = search needs
 
--- src/bytes.rt:35:19
 add-put-byte-4 : tie.Need-add-put-byte-4
 add-put-byte-4 c = search needs
 
--- src/bytes.rt:35:5
 put-byte-requires-4 : tie.Need-put-byte-requires-4
 put-byte-requires-4 c κs = search needs
 
--- src/bytes.rt:26:1
 same-length : tie.Need-same-length
 same-length c = search needs
 
--- src/bytes.rt:26:1
 returns : tie.Need-returns
 returns c = rw (c .before .before .put-byte4 .ensures, c .before .before .before .before .before .before .put-byte3 .ensures, c .before .before .before .before .before .before .before .before .before .before .put-two2 .ensures, c .before .before .before .before .before .before .before .before .before .before .before .before .before .before .put-byte2 .ensures, c .before .before .before .before .before .before .before .before .before .before .before .before .before .before .before .before .before .before .put-byte .ensures, c .before .before .before .before .before .before .before .before .before .before .before .before .before .before .before .before .before .before .before .before .before .before .put-two .ensures) (simp towards-suc)
 

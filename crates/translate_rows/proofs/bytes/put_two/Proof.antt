@@ -3,31 +3,24 @@ use borrow.Author.Needs.{needs}
 use Rattle.translate_rows.proofs.bytes.put_two.Statement.{statement}
 use Rattle.translate_rows.proofs.bytes.put_two.Tie as tie
 
--- src/bytes.rt:21:22
 cast-put-byte : tie.Need-cast-put-byte
 cast-put-byte c = search needs
 
--- src/bytes.rt:21:5
 put-byte-requires : tie.Need-put-byte-requires
 put-byte-requires c κs = search needs
 
--- src/bytes.rt:22:19
 add-put-byte : tie.Need-add-put-byte
 add-put-byte c = search needs
 
--- src/bytes.rt:22:26
 cast-put-byte-2 : tie.Need-cast-put-byte-2
 cast-put-byte-2 c = search needs
 
--- src/bytes.rt:22:5
 put-byte-requires-2 : tie.Need-put-byte-requires-2
 put-byte-requires-2 c κs = search needs
 
--- src/bytes.rt:17:1
 same-length : tie.Need-same-length
 same-length c = search needs
 
--- src/bytes.rt:17:1
 returns : tie.Need-returns
 returns c = rw (c .before .before .put-byte2 .ensures, c .before .before .before .before .before .before .put-byte .ensures, add-one)
 

@@ -2,19 +2,15 @@ use borrow.Author.Needs.{needs}
 use Rattle.translate_rows.proofs.cases.case_op_at.Statement.{statement}
 use Rattle.translate_rows.proofs.cases.case_op_at.Tie as tie
 
--- src/cases.rt:20:9
 word-at-requires : tie.Need-word-at-requires
 word-at-requires c κs = search needs
 
--- src/cases.rt:21:9
 word-at-requires-2 : tie.Need-word-at-requires-2
 word-at-requires-2 c κs = search needs
 
--- src/cases.rt:22:5
 read-op-requires : tie.Need-read-op-requires
 read-op-requires c κs = search needs
 
--- src/cases.rt:17:1
 returns : tie.Need-returns
 returns c = λ rows. rw (← c .before .before .word-at .ensures, ← c .before .word-at2 .ensures) (c .read-op .ensures rows)
 

@@ -1,9 +1,9 @@
 use borrow.Author.Needs.{needs}
 use Rattle.text_reader.proofs.Stops.{stops}
 use Rattle.translate_rows.proofs.Stops.{not-got}
-use Rattle.translate_rows.specs.Turns.{case-room, case-turn, no-case, no-oper, last-rows, rows-done, row-laid}
-use Rattle.translate_rows.specs.Laid.{laid}
-use Rattle.text_reader.specs.BodyLaws.{case-grows}
+use Rattle.translate_rows.specs.laws.Laps.{case-room, case-lap, no-case, no-oper, last-rows, rows-done, row-laid}
+use Rattle.translate_rows.specs.RowsPut.{rowsPut}
+use Rattle.text_reader.specs.laws.Bodies.{case-grows}
 use Rattle.text_reader.specs.Reading.{got, casesFrom, bodyFrom}
 use Rattle.meaning.specs.Layout.{caseRows}
 use Rattle.meaning.specs.Text.{Cases}
@@ -19,84 +19,65 @@ abbrev Inv-loop : tie.InvT-loop
 Inv-loop text channels depth from before top start j out₀ at₀ rows₀ n₀ line₀ i₀ out at rows n line i =
     (n ≤ caseLimit) × (before ≤ rows) × (length out ≡ length out₀) × (rows ≤ rowLimit) × (line ≤ rows + 256 * depth) × (i ≤ rows + 256 * depth) × (depth ≤ depthLimit)
     × ((k : ℕ) (cs : Cases) (a r : ℕ) → rowLimit - before < k → casesFrom text channels (bodyFrom k text channels depth) caseLimit from before ≡ got cs a r
-    → (ds : Cases) × (casesFrom text channels (bodyFrom k text channels depth) (caseLimit - n) at rows ≡ got ds a r) × (laid out line (caseRows ds i j) ≡ laid out₀ top (caseRows cs start j)))
+    → (ds : Cases) × (casesFrom text channels (bodyFrom k text channels depth) (caseLimit - n) at rows ≡ got ds a r) × (rowsPut out line (caseRows ds i j) ≡ rowsPut out₀ top (caseRows cs start j)))
 
 abbrev μ-loop : tie.MeasureT-loop
 μ-loop text channels depth from before top start j out₀ at₀ rows₀ n₀ line₀ i₀ out at rows n line i = suc rowLimit - rows
 
--- src/cases.rt:35:5
 loop-holds : tie.Need-loop-holds Inv-loop μ-loop
 loop-holds c = (omega arith, omega arith, refl, omega arith, omega arith, omega arith, omega arith, λ k cs a r l e. (cs, e, refl))
 
--- src/cases.rt:36:60
 sub-read-case : tie.Need-sub-read-case Inv-loop μ-loop
 sub-read-case c = omega arith
 
--- src/cases.rt:36:13
 read-case-requires : tie.Need-read-case-requires Inv-loop μ-loop
 read-case-requires c κs = search needs
 
--- src/cases.rt:37:24
 enum-known-r : tie.Need-enum-known-r Inv-loop μ-loop
 enum-known-r c = search needs
 
--- src/cases.rt:38:13
 same-length : tie.Need-same-length Inv-loop μ-loop
 same-length c = search needs
 
--- src/cases.rt:38:13
 returns : tie.Need-returns Inv-loop μ-loop
 returns c = λ k cs a r l e. let z = c .before .before .loop .inv .7 k cs a r l e in rows-done _ _ _ _ (z .0) (last-rows _ _ _ _ _ _ _ (no-case k _ _ _ (caseLimit - c .before .before .loop .n) (c .before .before .loop .at) (c .before .before .loop .rows) (omega arith) (stops (c .before .read-case .result) (c .match .keys2)) (c .before .read-case .ensures) (z .1))) ∙ z .2
 
--- src/cases.rt:40:13
 case-op-at-requires : tie.Need-case-op-at-requires Inv-loop μ-loop
 case-op-at-requires c κs = search needs
 
--- src/cases.rt:41:25
 enum-known-o : tie.Need-enum-known-o Inv-loop μ-loop
 enum-known-o c = search needs
 
--- src/cases.rt:42:13
 same-length-2 : tie.Need-same-length-2 Inv-loop μ-loop
 same-length-2 c = search needs
 
--- src/cases.rt:42:13
 returns-2 : tie.Need-returns-2 Inv-loop μ-loop
 returns-2 c = λ k cs a r l e. absurd (no-oper k _ _ _ (caseLimit - c .before .before .before .before .before .before .loop .n) (c .before .before .before .before .before .before .loop .at) (c .before .before .before .before .before .before .loop .rows) (c .before .case-op-at .result) (omega arith) (c .before .before .before .r .given .1) (c .before .before .before .before .before .read-case .ensures) (not-got (c .before .case-op-at .result) (c .match2 .keys2)) (c .before .case-op-at .ensures))
 
--- src/cases.rt:44:13
 first-at-requires : tie.Need-first-at-requires Inv-loop μ-loop
 first-at-requires c κs = search needs
 
--- src/cases.rt:45:9
 put-row-requires : tie.Need-put-row-requires Inv-loop μ-loop
 put-row-requires c κs = search needs
 
--- src/cases.rt:46:18
 sub-i : tie.Need-sub-i Inv-loop μ-loop
 sub-i c = let g = case-grows _ _ _ (c .before .before .before .before .before .before .before .before .before .before .before .before .before .loop .at) (c .before .before .before .before .before .before .before .before .before .before .before .before .before .loop .rows) (caseLimit - c .before .before .before .before .before .before .before .before .before .before .before .before .before .loop .n) (c .before .before .before .before .before .before .before .before .before .before .r .given .1) (c .before .before .before .before .before .before .before .before .before .before .before .before .read-case .ensures) in let m = case-room _ _ _ (caseLimit - c .before .before .before .before .before .before .before .before .before .before .before .before .before .loop .n) (c .before .before .before .before .before .before .before .before .before .before .before .before .before .loop .at) (c .before .before .before .before .before .before .before .before .before .before .before .before .before .loop .rows) (c .before .before .before .before .before .before .before .before .before .before .r .given .1) (c .before .before .before .before .before .before .before .before .before .before .before .before .read-case .ensures) in omega arith
 
--- src/cases.rt:46:18
 sub-i-2 : tie.Need-sub-i-2 Inv-loop μ-loop
 sub-i-2 c = let g = case-grows _ _ _ (c .before .before .before .before .before .before .before .before .before .before .before .before .before .loop .at) (c .before .before .before .before .before .before .before .before .before .before .before .before .before .loop .rows) (caseLimit - c .before .before .before .before .before .before .before .before .before .before .before .before .before .loop .n) (c .before .before .before .before .before .before .before .before .before .before .r .given .1) (c .before .before .before .before .before .before .before .before .before .before .before .before .read-case .ensures) in let m = case-room _ _ _ (caseLimit - c .before .before .before .before .before .before .before .before .before .before .before .before .before .loop .n) (c .before .before .before .before .before .before .before .before .before .before .before .before .before .loop .at) (c .before .before .before .before .before .before .before .before .before .before .before .before .before .loop .rows) (c .before .before .before .before .before .before .before .before .before .before .r .given .1) (c .before .before .before .before .before .before .before .before .before .before .before .before .read-case .ensures) in omega arith
 
--- src/cases.rt:46:13
 add-i : tie.Need-add-i Inv-loop μ-loop
 add-i c = let g = case-grows _ _ _ (c .before .before .before .before .before .before .before .before .before .before .before .before .before .loop .at) (c .before .before .before .before .before .before .before .before .before .before .before .before .before .loop .rows) (caseLimit - c .before .before .before .before .before .before .before .before .before .before .before .before .before .loop .n) (c .before .before .before .before .before .before .before .before .before .before .r .given .1) (c .before .before .before .before .before .before .before .before .before .before .before .before .read-case .ensures) in let m = case-room _ _ _ (caseLimit - c .before .before .before .before .before .before .before .before .before .before .before .before .before .loop .n) (c .before .before .before .before .before .before .before .before .before .before .before .before .before .loop .at) (c .before .before .before .before .before .before .before .before .before .before .before .before .before .loop .rows) (c .before .before .before .before .before .before .before .before .before .before .r .given .1) (c .before .before .before .before .before .before .before .before .before .before .before .before .read-case .ensures) in omega arith
 
--- src/cases.rt:49:13
 add-n : tie.Need-add-n Inv-loop μ-loop
 add-n c = let g = case-grows _ _ _ (c .before .before .before .before .before .before .before .before .before .before .before .before .before .loop .at) (c .before .before .before .before .before .before .before .before .before .before .before .before .before .loop .rows) (caseLimit - c .before .before .before .before .before .before .before .before .before .before .before .before .before .loop .n) (c .before .before .before .before .before .before .before .before .before .before .r .given .1) (c .before .before .before .before .before .before .before .before .before .before .before .before .read-case .ensures) in let m = case-room _ _ _ (caseLimit - c .before .before .before .before .before .before .before .before .before .before .before .before .before .loop .n) (c .before .before .before .before .before .before .before .before .before .before .before .before .before .loop .at) (c .before .before .before .before .before .before .before .before .before .before .before .before .before .loop .rows) (c .before .before .before .before .before .before .before .before .before .before .r .given .1) (c .before .before .before .before .before .before .before .before .before .before .before .before .read-case .ensures) in omega arith
 
--- src/cases.rt:50:16
 add-line : tie.Need-add-line Inv-loop μ-loop
 add-line c = let g = case-grows _ _ _ (c .before .before .before .before .before .before .before .before .before .before .before .before .before .loop .at) (c .before .before .before .before .before .before .before .before .before .before .before .before .before .loop .rows) (caseLimit - c .before .before .before .before .before .before .before .before .before .before .before .before .before .loop .n) (c .before .before .before .before .before .before .before .before .before .before .r .given .1) (c .before .before .before .before .before .before .before .before .before .before .before .before .read-case .ensures) in let m = case-room _ _ _ (caseLimit - c .before .before .before .before .before .before .before .before .before .before .before .before .before .loop .n) (c .before .before .before .before .before .before .before .before .before .before .before .before .before .loop .at) (c .before .before .before .before .before .before .before .before .before .before .before .before .before .loop .rows) (c .before .before .before .before .before .before .before .before .before .before .r .given .1) (c .before .before .before .before .before .before .before .before .before .before .before .before .read-case .ensures) in omega arith
 
--- src/cases.rt:35:5
 loop-less : tie.Need-loop-less Inv-loop μ-loop
 loop-less c = let g = case-grows _ _ _ (c .before .before .before .before .before .before .before .before .before .before .before .before .before .loop .at) (c .before .before .before .before .before .before .before .before .before .before .before .before .before .loop .rows) (caseLimit - c .before .before .before .before .before .before .before .before .before .before .before .before .before .loop .n) (c .before .before .before .before .before .before .before .before .before .before .r .given .1) (c .before .before .before .before .before .before .before .before .before .before .before .before .read-case .ensures) in let m = case-room _ _ _ (caseLimit - c .before .before .before .before .before .before .before .before .before .before .before .before .before .loop .n) (c .before .before .before .before .before .before .before .before .before .before .before .before .before .loop .at) (c .before .before .before .before .before .before .before .before .before .before .before .before .before .loop .rows) (c .before .before .before .before .before .before .before .before .before .before .r .given .1) (c .before .before .before .before .before .before .before .before .before .before .before .before .read-case .ensures) in omega arith
 
--- src/cases.rt:35:5
 loop-again : tie.Need-loop-again Inv-loop μ-loop
 loop-again c = let g = case-grows _ _ _ (c .before .before .before .before .before .before .before .before .before .before .before .before .before .loop .at) (c .before .before .before .before .before .before .before .before .before .before .before .before .before .loop .rows) (caseLimit - c .before .before .before .before .before .before .before .before .before .before .before .before .before .loop .n) (c .before .before .before .before .before .before .before .before .before .before .r .given .1) (c .before .before .before .before .before .before .before .before .before .before .before .before .read-case .ensures) in let m = case-room _ _ _ (caseLimit - c .before .before .before .before .before .before .before .before .before .before .before .before .before .loop .n) (c .before .before .before .before .before .before .before .before .before .before .before .before .before .loop .at) (c .before .before .before .before .before .before .before .before .before .before .before .before .before .loop .rows) (c .before .before .before .before .before .before .before .before .before .before .r .given .1) (c .before .before .before .before .before .before .before .before .before .before .before .before .read-case .ensures) in (
   omega arith,
@@ -108,7 +89,7 @@ loop-again c = let g = case-grows _ _ _ (c .before .before .before .before .befo
   omega arith,
   λ k cs a t l e.
       let z = c .before .before .before .before .before .before .before .before .before .before .before .before .before .loop .inv .7 k cs a t l e in
-      let w = case-turn k _ _ _ (caseLimit - c .before .before .before .before .before .before .before .before .before .before .before .before .before .loop .n) (c .before .before .before .before .before .before .before .before .before .before .before .before .before .loop .at) (c .before .before .before .before .before .before .before .before .before .before .before .before .before .loop .rows) (omega arith) (c .before .before .before .before .before .before .before .before .before .before .r .given .1) (c .before .before .before .before .before .before .before .before .before .before .before .before .read-case .ensures) (c .before .before .before .before .before .before .o .given .1) (c .before .before .before .before .before .before .before .before .case-op-at .ensures) (z .1) in
+      let w = case-lap k _ _ _ (caseLimit - c .before .before .before .before .before .before .before .before .before .before .before .before .before .loop .n) (c .before .before .before .before .before .before .before .before .before .before .before .before .before .loop .at) (c .before .before .before .before .before .before .before .before .before .before .before .before .before .loop .rows) (omega arith) (c .before .before .before .before .before .before .before .before .before .before .r .given .1) (c .before .before .before .before .before .before .before .before .before .before .before .before .read-case .ensures) (c .before .before .before .before .before .before .o .given .1) (c .before .before .before .before .before .before .before .before .case-op-at .ensures) (z .1) in
       let f = w .left-is in
       let q : w .fewer ≡ caseLimit - (c .before .before .before .before .before .before .before .before .before .before .before .before .before .loop .n + 1) = omega arith in
       (w .rest, rw (← q) (w .rest-is), row-laid w _ (c .before .before .before .before .before .before .before .before .before .before .before .before .before .loop .line) (c .before .before .before .before .before .before .before .before .before .before .before .before .before .loop .i) _ (c .before .before .before .before .first-at .result) (c .before .before .before .before .first-at .ensures) (c .before .before .put-row .ensures) ∙ z .2),

@@ -1,22 +1,18 @@
 use mathlib.Core.Path.{sym, _∙_}
-use Rattle.translate_rows.specs.Turns.{entry-there, entry-behind}
+use Rattle.translate_rows.specs.laws.Laps.{entry-there, entry-behind}
 use borrow.Author.Needs.{needs}
 use Rattle.translate_rows.proofs.firsts.first_at.Statement.{statement}
 use Rattle.translate_rows.proofs.firsts.first_at.Tie as tie
 
--- src/firsts.rt:13:9
 word-at-requires : tie.Need-word-at-requires
 word-at-requires c κs = search needs
 
--- src/firsts.rt:15:8
 is-statement-requires : tie.Need-is-statement-requires
 is-statement-requires c κs = search needs
 
--- src/firsts.rt:10:1
 returns : tie.Need-returns
 returns c = entry-there _ _ _ _ (c .before .before .word-at .ensures) (sym (c .before .is-statement .ensures) ∙ c .if1 .taken)
 
--- src/firsts.rt:10:1
 returns-2 : tie.Need-returns-2
 returns-2 c = entry-behind _ _ _ _ (c .before .before .word-at .ensures) (sym (c .before .is-statement .ensures) ∙ c .if1 .left)
 

@@ -1,25 +1,21 @@
-use Rattle.translate_rows.specs.Turns.{last-default, last-nomore}
+use Rattle.translate_rows.specs.laws.Laps.{last-default, last-nomore}
 use Rattle.meaning.specs.Layout.{defaultRow}
-use Rattle.meaning.specs.declared.Otherwise.the-variants.{Go}
+use Rattle.translate_rows.specs.Kinds.{Go}
 use mathlib.Core.Path.{ap}
 use borrow.Author.Needs.{needs}
 use Rattle.translate_rows.proofs.firsts.otherwise_at.Statement.{statement}
 use Rattle.translate_rows.proofs.firsts.otherwise_at.Tie as tie
 
--- src/firsts.rt:25:9
 word-at-requires : tie.Need-word-at-requires
 word-at-requires c κs = search needs
 
--- src/firsts.rt:29:30
 first-at-requires : tie.Need-first-at-requires
 first-at-requires c κs = search needs
 
--- src/firsts.rt:29:9
 returns : tie.Need-returns
 unfolding defaultRow
 returns c = λ k channels depth rows cs a r e. let z = last-default _ _ _ _ _ (c .before .before .word-at .ensures) (c .before .if1 .taken) e in rw (z .2) (ap Go (c .first-at .ensures k channels depth rows (z .0) a r (z .1)))
 
--- src/firsts.rt:22:1
 returns-2 : tie.Need-returns-2
 unfolding defaultRow
 returns-2 c = λ k channels depth rows cs a r e. rw (last-nomore _ _ _ _ _ (c .before .word-at .ensures) (c .if1 .left) e)

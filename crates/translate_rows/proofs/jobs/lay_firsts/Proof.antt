@@ -1,7 +1,7 @@
 use borrow.Author.Needs.{needs}
 use Rattle.text_reader.proofs.Stops.{stops}
-use Rattle.translate_rows.specs.Tasks.{task-room, task-turn, tasks-done, turn-firsts, firsts-nil}
-use Rattle.text_reader.specs.JobLaws.{tasks-step}
+use Rattle.translate_rows.specs.laws.Tasks.{task-room, task-lap, tasks-done, lap-firsts, firsts-nil}
+use Rattle.text_reader.specs.laws.Jobs.{tasks-step}
 use Rattle.text_reader.specs.Reading.{got, tasksFrom}
 use Rattle.meaning.specs.Bytes.{firstBytes}
 use Rattle.meaning.specs.Layout.{firstRows}
@@ -25,47 +25,36 @@ Inv-loop text channels from before base out₀ at₀ rows₀ n₀ i₀ out at ro
 abbrev μ-loop : tie.MeasureT-loop
 μ-loop text channels from before base out₀ at₀ rows₀ n₀ i₀ out at rows n i = suc rowLimit - rows
 
--- src/jobs.rt:48:5
 loop-holds : tie.Need-loop-holds Inv-loop μ-loop
 loop-holds c = (omega arith, refl, omega arith, omega arith, λ bs a r e. (bs, e, refl))
 
--- src/jobs.rt:49:53
 sub-read-task : tie.Need-sub-read-task Inv-loop μ-loop
 sub-read-task c = omega arith
 
--- src/jobs.rt:49:13
 read-task-requires : tie.Need-read-task-requires Inv-loop μ-loop
 read-task-requires c κs = search needs
 
--- src/jobs.rt:50:24
 enum-known-r : tie.Need-enum-known-r Inv-loop μ-loop
 enum-known-r c = search needs
 
--- src/jobs.rt:51:13
 same-length : tie.Need-same-length Inv-loop μ-loop
 same-length c = search needs
 
--- src/jobs.rt:51:13
 returns : tie.Need-returns Inv-loop μ-loop
 returns c = λ bs a r e. let z = c .before .before .loop .inv .4 bs a r e in firsts-nil _ _ _ (tasks-done _ _ (taskLimit - c .before .before .loop .n) (c .before .before .loop .at) (c .before .before .loop .rows) (stops (c .before .read-task .result) (c .match .keys2)) (c .before .read-task .ensures) (z .1)) ∙ z .2
 
--- src/jobs.rt:53:9
 put-two-requires : tie.Need-put-two-requires Inv-loop μ-loop
 put-two-requires c κs = let g = tasks-step _ _ (taskLimit - c .before .before .before .before .before .loop .n) (c .before .before .before .before .before .loop .at) (c .before .before .before .before .before .loop .rows) 0 (c .before .before .r .given .1) (c .before .before .before .before .read-task .ensures) .0 in let m = task-room _ _ (taskLimit - c .before .before .before .before .before .loop .n) (c .before .before .before .before .before .loop .at) (c .before .before .before .before .before .loop .rows) (c .before .before .r .given .1) (c .before .before .before .before .read-task .ensures) in omega arith
 
--- src/jobs.rt:56:13
 add-n : tie.Need-add-n Inv-loop μ-loop
 add-n c = let g = tasks-step _ _ (taskLimit - c .before .before .before .before .before .before .before .before .loop .n) (c .before .before .before .before .before .before .before .before .loop .at) (c .before .before .before .before .before .before .before .before .loop .rows) 0 (c .before .before .before .before .before .r .given .1) (c .before .before .before .before .before .before .before .read-task .ensures) .0 in let m = task-room _ _ (taskLimit - c .before .before .before .before .before .before .before .before .loop .n) (c .before .before .before .before .before .before .before .before .loop .at) (c .before .before .before .before .before .before .before .before .loop .rows) (c .before .before .before .before .before .r .given .1) (c .before .before .before .before .before .before .before .read-task .ensures) in omega arith
 
--- src/jobs.rt:57:13
 add-i : tie.Need-add-i Inv-loop μ-loop
 add-i c = let g = tasks-step _ _ (taskLimit - c .before .before .before .before .before .before .before .before .loop .n) (c .before .before .before .before .before .before .before .before .loop .at) (c .before .before .before .before .before .before .before .before .loop .rows) 0 (c .before .before .before .before .before .r .given .1) (c .before .before .before .before .before .before .before .read-task .ensures) .0 in let m = task-room _ _ (taskLimit - c .before .before .before .before .before .before .before .before .loop .n) (c .before .before .before .before .before .before .before .before .loop .at) (c .before .before .before .before .before .before .before .before .loop .rows) (c .before .before .before .before .before .r .given .1) (c .before .before .before .before .before .before .before .read-task .ensures) in omega arith
 
--- src/jobs.rt:48:5
 loop-less : tie.Need-loop-less Inv-loop μ-loop
 loop-less c = let g = tasks-step _ _ (taskLimit - c .before .before .before .before .before .before .before .before .loop .n) (c .before .before .before .before .before .before .before .before .loop .at) (c .before .before .before .before .before .before .before .before .loop .rows) 0 (c .before .before .before .before .before .r .given .1) (c .before .before .before .before .before .before .before .read-task .ensures) .0 in let m = task-room _ _ (taskLimit - c .before .before .before .before .before .before .before .before .loop .n) (c .before .before .before .before .before .before .before .before .loop .at) (c .before .before .before .before .before .before .before .before .loop .rows) (c .before .before .before .before .before .r .given .1) (c .before .before .before .before .before .before .before .read-task .ensures) in omega arith
 
--- src/jobs.rt:48:5
 loop-again : tie.Need-loop-again Inv-loop μ-loop
 loop-again c = let g = tasks-step _ _ (taskLimit - c .before .before .before .before .before .before .before .before .loop .n) (c .before .before .before .before .before .before .before .before .loop .at) (c .before .before .before .before .before .before .before .before .loop .rows) 0 (c .before .before .before .before .before .r .given .1) (c .before .before .before .before .before .before .before .read-task .ensures) .0 in let m = task-room _ _ (taskLimit - c .before .before .before .before .before .before .before .before .loop .n) (c .before .before .before .before .before .before .before .before .loop .at) (c .before .before .before .before .before .before .before .before .loop .rows) (c .before .before .before .before .before .r .given .1) (c .before .before .before .before .before .before .before .read-task .ensures) in (
   omega arith,
@@ -74,10 +63,10 @@ loop-again c = let g = tasks-step _ _ (taskLimit - c .before .before .before .be
   omega arith,
   λ bs a t e.
       let z = c .before .before .before .before .before .before .before .before .loop .inv .4 bs a t e in
-      let w = task-turn _ _ (taskLimit - c .before .before .before .before .before .before .before .before .loop .n) (c .before .before .before .before .before .before .before .before .loop .at) (c .before .before .before .before .before .before .before .before .loop .rows) (c .before .before .before .before .before .r .given .1) (c .before .before .before .before .before .before .before .read-task .ensures) refl (z .1) in
+      let w = task-lap _ _ (taskLimit - c .before .before .before .before .before .before .before .before .loop .n) (c .before .before .before .before .before .before .before .before .loop .at) (c .before .before .before .before .before .before .before .before .loop .rows) (c .before .before .before .before .before .r .given .1) (c .before .before .before .before .before .before .before .read-task .ensures) refl (z .1) in
       let f = w .left-is in
       let q : w .fewer ≡ taskLimit - (c .before .before .before .before .before .before .before .before .loop .n + 1) = omega arith in
-      (w .rest, rw (← q) (w .rest-is), turn-firsts w _ (c .before .before .before .before .before .before .before .before .loop .i) (c .before .before .put-two .ensures) ∙ z .2),
+      (w .rest, rw (← q) (w .rest-is), lap-firsts w _ (c .before .before .before .before .before .before .before .before .loop .i) (c .before .before .put-two .ensures) ∙ z .2),
 )
 
 pub lay-firsts-spec : {M : Type 1} → statement M

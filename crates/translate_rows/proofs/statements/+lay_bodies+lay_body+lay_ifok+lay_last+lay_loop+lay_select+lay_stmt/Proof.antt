@@ -7,12 +7,12 @@ use Rattle.meaning.specs.Numbers.{caseLimit, depthLimit, rowLimit}
 use Rattle.meaning.specs.Text.{Body, Cases}
 use Rattle.meaning.specs.Layout.{rowsB, rowsC}
 use Rattle.text_reader.specs.Reading.{got, casesFrom, bodyFrom}
-use Rattle.text_reader.specs.HeadLaws.{head-told}
-use Rattle.text_reader.specs.BodyLaws.{stmt-grows, body-grows, case-grows, cases-grow}
-use Rattle.text_reader.specs.SelectLaws.{behindCases}
-use Rattle.translate_rows.specs.Laid.{laid}
-use Rattle.text_reader.specs.PartLaws.{none-got, bad-got, same-got, bind-got}
-use Rattle.translate_rows.specs.Turns.{bind-told, bind-stopped, closed-got, stmt-room, body-room, turn, no-turn, turn-laid, body-done, last-default, last-nomore, case-turn, no-oper, no-case, case-room, cases-room, bodies-turn, loop-laid, if-else, if-end, body-size, ifok-laid, ifok-laid-one, last-laid, last-done, chosen, no-cases, select-laid, range-laid, repeat-laid, operate-laid, close-laid, stop-laid, refused-done, head-as}
+use Rattle.text_reader.specs.laws.Heads.{head-told}
+use Rattle.text_reader.specs.laws.Bodies.{stmt-grows, body-grows, case-grows, cases-grow}
+use Rattle.text_reader.specs.laws.Selects.{behindCases}
+use Rattle.translate_rows.specs.RowsPut.{rowsPut}
+use Rattle.text_reader.specs.laws.Parts.{none-got, bad-got, same-got, bind-got}
+use Rattle.translate_rows.specs.laws.Laps.{bind-told, bind-stopped, closed-got, stmt-room, body-room, lap, no-lap, lap-laid, body-done, last-default, last-nomore, case-lap, no-oper, no-case, case-room, cases-room, bodies-lap, loop-laid, if-else, if-end, body-size, ifok-laid, ifok-laid-one, last-laid, last-done, chosen, no-cases, select-laid, range-laid, repeat-laid, operate-laid, close-laid, stop-laid, refused-done, head-as}
 use Rattle.text_reader.proofs.Stops.{stops}
 use Rattle.translate_rows.proofs.Stops.{not-got}
 use Prim.Native.Nat.{ℕ, suc, _+_, _-_, _*_, _≤_, _<_}
@@ -133,7 +133,7 @@ abbrev lay-bodies-Inv-loop : lay-bodies-lts.InvT-loop
 lay-bodies-Inv-loop text channels depth from before start j out₀ at₀ rows₀ n₀ i₀ out at rows n i =
     (n ≤ caseLimit) × (before ≤ rows) × (length out ≡ length out₀) × (rows ≤ rowLimit) × (i ≤ rows + 256 * depth) × (depth ≤ depthLimit)
     × ((k : ℕ) (cs : Cases) (a r : ℕ) → rowLimit - before < k → casesFrom text channels (bodyFrom k text channels depth) caseLimit from before ≡ got cs a r
-    → (ds : Cases) × (casesFrom text channels (bodyFrom k text channels depth) (caseLimit - n) at rows ≡ got ds a r) × (laid out i (rowsC ds depth i j) ≡ laid out₀ start (rowsC cs depth start j)))
+    → (ds : Cases) × (casesFrom text channels (bodyFrom k text channels depth) (caseLimit - n) at rows ≡ got ds a r) × (rowsPut out i (rowsC ds depth i j) ≡ rowsPut out₀ start (rowsC cs depth start j)))
 
 abbrev lay-bodies-μ-loop : lay-bodies-lts.MeasureT-loop
 lay-bodies-μ-loop text channels depth from before start j out₀ at₀ rows₀ n₀ i₀ out at rows n i = suc rowLimit - rows
@@ -142,7 +142,7 @@ abbrev lay-body-Inv-loop : lay-body-lts.InvT-loop
 lay-body-Inv-loop text channels depth from before start after out₀ at₀ rows₀ i₀ out at rows i =
     (before ≤ rows) × (length out ≡ length out₀) × (depth ≤ depthLimit) × (rows ≤ rowLimit) × (i ≤ rows + 256 * depth)
     × ((k : ℕ) (b : Body) (a r : ℕ) → rowLimit - before < k → bodyFrom k text channels depth from before ≡ got b a r
-    → (m : ℕ) × (d : Body) × (rowLimit - rows < m) × (bodyFrom m text channels depth at rows ≡ got d a r) × (laid out i (rowsB d depth i after) ≡ laid out₀ start (rowsB b depth start after)))
+    → (m : ℕ) × (d : Body) × (rowLimit - rows < m) × (bodyFrom m text channels depth at rows ≡ got d a r) × (rowsPut out i (rowsB d depth i after) ≡ rowsPut out₀ start (rowsB b depth start after)))
 
 abbrev lay-body-μ-loop : lay-body-lts.MeasureT-loop
 lay-body-μ-loop text channels depth from before start after out₀ at₀ rows₀ i₀ out at rows i = suc rowLimit - rows
@@ -199,10 +199,10 @@ pub +lay-bodies+lay-body+lay-ifok+lay-last+lay-loop+lay-select+lay-stmt-spec :
       omega arith,
       λ k cs a t l e.
           let z = c .before .before .before .before .before .before .before .before .before .before .before .before .loop .inv .6 k cs a t l e in
-          let w = case-turn k _ _ _ (caseLimit - c .before .before .before .before .before .before .before .before .before .before .before .before .loop .n) (c .before .before .before .before .before .before .before .before .before .before .before .before .loop .at) (c .before .before .before .before .before .before .before .before .before .before .before .before .loop .rows) (omega arith) (c .before .before .before .before .before .before .before .before .before .r .given .1) (c .before .before .before .before .before .before .before .before .before .before .before .read-case .ensures) (c .before .before .before .before .before .o .given .1) (c .before .before .before .before .before .before .before .case-op-at .ensures) (z .1) in
+          let w = case-lap k _ _ _ (caseLimit - c .before .before .before .before .before .before .before .before .before .before .before .before .loop .n) (c .before .before .before .before .before .before .before .before .before .before .before .before .loop .at) (c .before .before .before .before .before .before .before .before .before .before .before .before .loop .rows) (omega arith) (c .before .before .before .before .before .before .before .before .before .r .given .1) (c .before .before .before .before .before .before .before .before .before .before .before .read-case .ensures) (c .before .before .before .before .before .o .given .1) (c .before .before .before .before .before .before .before .case-op-at .ensures) (z .1) in
           let f = w .left-is in
           let q : w .fewer ≡ caseLimit - (c .before .before .before .before .before .before .before .before .before .before .before .before .loop .n + 1) = omega arith in
-          (w .rest, rw (← q) (w .rest-is), bodies-turn w _ (c .before .before .before .before .before .before .before .before .before .before .before .before .loop .i) _ (c .before .before .lay-body .ensures k (w .one) _ _ (omega arith) (w .is)) ∙ z .2),
+          (w .rest, rw (← q) (w .rest-is), bodies-lap w _ (c .before .before .before .before .before .before .before .before .before .before .before .before .loop .i) _ (c .before .before .lay-body .ensures k (w .one) _ _ (omega arith) (w .is)) ∙ z .2),
     )))
     (λ t. lay-body-lts.spec (
       read-stmt-reads.Asked,
@@ -220,7 +220,7 @@ pub +lay-bodies+lay-body+lay-ifok+lay-last+lay-loop+lay-select+lay-stmt-spec :
     (λ c κs. search needs)
     (λ c. search needs)
     (λ c. search needs)
-    (λ c. λ k b a r l e. let z = c .before .before .loop .inv .5 k b a r l e in body-done _ _ _ _ (no-turn _ _ _ (c .before .before .loop .at) (c .before .before .loop .rows) (stops (c .before .read-stmt .result) (c .match .keys2)) (c .before .read-stmt .ensures) (z .0) (z .2) (z .3)) ∙ z .4)
+    (λ c. λ k b a r l e. let z = c .before .before .loop .inv .5 k b a r l e in body-done _ _ _ _ (no-lap _ _ _ (c .before .before .loop .at) (c .before .before .loop .rows) (stops (c .before .read-stmt .result) (c .match .keys2)) (c .before .read-stmt .ensures) (z .0) (z .2) (z .3)) ∙ z .4)
     (λ c. let g = stmt-grows _ _ _ (c .before .before .before .before .loop .at) (c .before .before .before .before .loop .rows) (c .before .r .given .1) (c .before .before .before .read-stmt .ensures) in let m = stmt-room _ _ _ (c .before .before .before .before .loop .at) (c .before .before .before .before .loop .rows) (c .before .r .given .1) (c .before .before .before .read-stmt .ensures) in omega arith)
     (λ c. let g = stmt-grows _ _ _ (c .before .before .before .before .loop .at) (c .before .before .before .before .loop .rows) (c .before .r .given .1) (c .before .before .before .read-stmt .ensures) in let m = stmt-room _ _ _ (c .before .before .before .before .loop .at) (c .before .before .before .before .loop .rows) (c .before .r .given .1) (c .before .before .before .read-stmt .ensures) in omega arith)
     (λ c κs. search needs)
@@ -234,8 +234,8 @@ pub +lay-bodies+lay-body+lay-ifok+lay-last+lay-loop+lay-select+lay-stmt-spec :
       omega arith,
       λ k b a t l e.
           let z = c .before .before .before .before .before .before .before .before .before .loop .inv .5 k b a t l e in
-          let w = turn _ _ _ (c .before .before .before .before .before .before .before .before .before .loop .at) (c .before .before .before .before .before .before .before .before .before .loop .rows) (c .before .before .before .before .before .before .r .given .1) (c .before .before .before .before .before .before .before .before .read-stmt .ensures) (z .0) (z .2) (z .3) in
-          (w .steps, w .rest, w .enough′, w .rest-is, turn-laid w _ (c .before .before .before .before .before .before .before .before .before .loop .i) _ (c .before .before .before .before .first-at .result) (c .before .before .before .before .first-at .ensures) (c .before .before .lay-stmt .ensures (w .steps) (w .one) _ _ (w .enough) (w .is)) ∙ z .4),
+          let w = lap _ _ _ (c .before .before .before .before .before .before .before .before .before .loop .at) (c .before .before .before .before .before .before .before .before .before .loop .rows) (c .before .before .before .before .before .before .r .given .1) (c .before .before .before .before .before .before .before .before .read-stmt .ensures) (z .0) (z .2) (z .3) in
+          (w .steps, w .rest, w .enough′, w .rest-is, lap-laid w _ (c .before .before .before .before .before .before .before .before .before .loop .i) _ (c .before .before .before .before .first-at .result) (c .before .before .before .before .first-at .ensures) (c .before .before .lay-stmt .ensures (w .steps) (w .one) _ _ (w .enough) (w .is)) ∙ z .4),
     )))
     (λ t. lay-ifok-lts.spec (
       read-body-reads.Asked,

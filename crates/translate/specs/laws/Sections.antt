@@ -1,0 +1,57 @@
+-- The parts of a job that the definitions read, by what pass 1 answers. Assumes nothing.
+use mathlib.Core.Path.{_≡_, refl, sym, ap, subst, _∙_}
+use mathlib.Core.List.{List, [], _∷_}
+use Prim.Native.Nat.{ℕ, suc, _+_}
+use lib.ListN.{length}
+use Rattle.meaning.specs.Numbers.{channelLimit, taskLimit}
+use Rattle.meaning.specs.Text.{Body, Job}
+use Rattle.meaning.specs.Layout.{rowsT}
+use Rattle.translate.specs.Kinds.{Counted}
+use Rattle.text_reader.specs.Reading.{got, bind, chansFrom, tasksFrom, jobOf, job}
+use Rattle.text_reader.specs.Answers.{counted, ChansTold}
+use Rattle.text_laws.specs.laws.Kept.{Kept, Anywhere, ChansRead, JobRead}
+use Rattle.text_laws.specs.laws.Walk.{chans-kept, job-kept}
+use Rattle.text_reader.specs.laws.Parts.{bad-got, same-got, bind-got}
+
+-- The channels from the text's first byte on, and the tasks behind them, which no row stands ahead of.
+pub record Parts (s : List ℕ) (j : Job) (a rows : ℕ) : Type 0 where
+  pub from : ℕ
+  pub chans : chansFrom s channelLimit 0 0 ≡ got (j .capacities) from 0
+  pub tasks : tasksFrom s (length (j .capacities)) taskLimit from 0 ≡ got (j .tasks) a rows
+  pub counted-rows : rows ≡ length (rowsT (j .tasks) 0)
+
+module _ (s : List ℕ) where
+  job-is : (caps : List ℕ) (bs : List Body) {at r : ℕ} {j : Job} {a rows : ℕ} → jobOf s caps bs at r ≡ got j a rows → (caps ≡ j .capacities) × (bs ≡ j .tasks) × (at ≡ a) × (r ≡ rows)
+  job-is caps [] e = absurd (bad-got e)
+  job-is caps (b ∷ bs) e = let q = same-got e in (ap (λ (j : Job). j .capacities) (q .0), ap (λ (j : Job). j .tasks) (q .0), q .1, q .2)
+
+  no-rows : {caps : List ℕ} {at r : ℕ} → chansFrom s channelLimit 0 0 ≡ got caps at r → r ≡ 0
+  no-rows e = subst (Kept s Anywhere (ChansRead (suc channelLimit))) e (chans-kept s Anywhere (λ _. tt) channelLimit 0 0 tt refl) .1 .first
+
+  parts-of : {caps : List ℕ} {at r : ℕ} {bs : List Body} {a′ r′ : ℕ} {j : Job} {a rows : ℕ} → chansFrom s channelLimit 0 0 ≡ got caps at r → tasksFrom s (length caps) taskLimit at r ≡ got bs a′ r′ → jobOf s caps bs a′ r′ ≡ got j a rows → rows ≡ length (rowsT (j .tasks) 0) → Parts s j a rows
+  parts-of {caps} {at} {r} {bs} e f g n =
+      let q = job-is caps bs g in
+      let z = no-rows e in
+      record { from = at; chans = rw (z, q .0) at e; tasks = rw (z, q .0, q .1, q .2, q .3) at f; counted-rows = n }
+
+  pub job-parts : (j : Job) (a rows : ℕ) → job s ≡ got j a rows → Parts s j a rows
+  unfolding job
+  job-parts j a rows e =
+      let g = bind-got (chansFrom s channelLimit 0 0) (λ caps at r. bind (tasksFrom s (length caps) taskLimit at r) (λ bs at r. jobOf s caps bs at r)) e in
+      let f = bind-got (tasksFrom s (length (g .0)) taskLimit (g .1) (g .2)) (λ bs at r. jobOf s (g .0) bs at r) (g .4) in
+      let k = subst (Kept s Anywhere JobRead) e (job-kept s Anywhere (λ _. tt) tt) .1 in
+      parts-of (g .3) (f .3) (f .4) (k .rows)
+
+  pub tasks-from : {j : Job} {a rows : ℕ} (p : Parts s j a rows) {from channels : ℕ} → from ≡ p .from → channels ≡ length (j .capacities) → tasksFrom s channels taskLimit from 0 ≡ got (j .tasks) a rows
+  tasks-from p q c = rw (q, c) (p .tasks)
+
+  -- Where pass 1 says that the tasks begin.
+  pub tasks-place : {v : Counted} {from before n : ℕ} {caps : List ℕ} {at r : ℕ} → v ≡ Counted.Done from before n → ChansTold s v → chansFrom s channelLimit 0 0 ≡ got caps at r → from ≡ at
+  unfolding counted
+  tasks-place {from = from} {before} {n} {caps} {at} {r} q h e =
+      let f : Counted.Done from before n ≡ Counted.Done at r (0 + length caps) = sym q ∙ h ∙ ap (counted length 0) e in
+      cc
+
+  pub chans-there : {v : Counted} {caps : List ℕ} {at r : ℕ} → ((a r n : ℕ) → v ≡ Counted.Done a r n → ⊥) → ChansTold s v → chansFrom s channelLimit 0 0 ≡ got caps at r → ⊥
+  unfolding counted
+  chans-there {caps = caps} {at} {r} t h e = t at r (0 + length caps) (h ∙ ap (counted length 0) e)
