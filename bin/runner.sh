@@ -3,7 +3,7 @@
 # own loader and C library, and on Arm under the kit's emulator too:
 #
 #     ${emulator:+"$emulator"} "$loader" --library-path "$library" PROGRAM
-command -v rt >/dev/null || { echo "rt, the command of the Rattle kit, is not on the path" >&2; exit 2; }
+command -v rt >/dev/null || { echo "rt, the command of the Rattle kit, is not on the path: add the kit's bin folder to PATH" >&2; exit 2; }
 kit=${RATTLE_HOME:-$(cd "$(dirname "$(readlink -f "$(command -v rt)")")/.." && pwd -P)}
 tools=$kit/on/$(uname -m)/toolchain
 library=$tools/lib
