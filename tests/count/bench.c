@@ -1,90 +1,108 @@
-/* Instructions of one turn, one image check and one translation: each kind below is made N times, by the library, or with PLAIN by
-   the plain C of plain.c. A translation is made by both first, and their images compared. */
+/* `bench KIND ROUNDS` makes one turn, one image check, one fit or one translation so many times by the library, `bench KIND ROUNDS
+   plain` by the plain C of plain.c. It fails where an answer is not the one that is due. */
 #include "images.h"
 #include "plain.h"
 #include "texts.h"
-#ifndef N
-#define N 1
-#endif
 size_t bench_translate(const uint8_t *text, size_t n, uint8_t *image, size_t image_n);
-uint8_t bench_check(const uint8_t *image, size_t n);
+uint32_t bench_check(const uint8_t *image, size_t n);
 uint16_t bench_rounds(const uint8_t *image, size_t n, const uint8_t *pairs, size_t pairs_n, _Bool whole, uint8_t task, uint8_t choice, uint32_t rounds);
+uint16_t bench_fit(const uint8_t *image, size_t n, const uint8_t *pairs, size_t pairs_n, uint32_t rounds);
 
-/* An image of 1,024 rows: a send, stops, and a second task. */
-static uint8_t long_image[8 * 1024 + 1 + 4 + 8];
-static void make_long(void) {
-    uint8_t *p = long_image;
-    p[0] = 1; p[2] = 7; p[4] = 1;
-    for (int i = 1; i < 1024; i++) p[8 * i] = 12;
-    p += 8 * 1024;
-    p[0] = 1; p[3] = 1023 % 256; p[4] = 1023 / 256;
-    p += 5;
-    p[0] = 1024 % 256; p[1] = 1024 / 256; p[2] = 1; p[3] = 2;
-    p[4] = (8 * 1024 + 5) % 256; p[5] = (8 * 1024 + 5) / 256; p[6] = 0x5A; p[7] = 1;
+/* Two images of 1,024 rows and two tasks: a send and then stops, and sends up to two stops. */
+static uint8_t stops[8 * 1024 + 1 + 4 + 8], sends[sizeof stops];
+static void make_long(uint8_t *p, int n) {
+    for (int i = 0; i < 1024; i++, p += 8) {
+        if (i < n) { p[0] = 1; p[2] = 7; p[4] = (uint8_t)(i + 1); p[5] = (uint8_t)((i + 1) >> 8); } else p[0] = 12;
+    }
+    static const uint8_t tail[13] = {1, 0, 0, 1023 % 256, 1023 / 256, 0, 4, 1, 2, 8197 % 256, 8197 / 256, 0x5A, 1};
+    for (size_t i = 0; i < sizeof tail; i++) p[i] = tail[i];
 }
 
+/* What is made again and again: a step, a turn, a fit, a check; from the state that the pairs lead to. */
+enum what { STEP, TURN, FIT, CHECK };
+typedef struct { const char *name; enum what what; const uint8_t *image; size_t n; const uint8_t *pairs; size_t pairs_n; uint8_t task; } kind_t;
 static const uint8_t none[1], one_turn[2] = {0, 0};
 static const uint8_t all_wait[30] = {0, 0, 1, 0, 2, 0, 3, 0, 4, 0, 5, 0, 6, 0, 7, 0, 8, 0, 9, 0, 10, 0, 11, 0, 12, 0, 13, 0, 14, 0};
+static const kind_t kinds[] = {
+    {"send", STEP, pass, sizeof pass, none, 0, 0},
+    {"receive", STEP, pass, sizeof pass, one_turn, 2, 1},
+    {"select", STEP, select8, sizeof select8, none, 0, 0},
+    {"close", STEP, close15, sizeof close15, all_wait, 30, 15},
+    {"turn-4", TURN, pass, sizeof pass, none, 0, 0},
+    {"turn-32", TURN, close15, sizeof close15, all_wait, 30, 15},
+    {"turn-1024", TURN, stops, sizeof stops, none, 0, 0},
+    {"check-4", CHECK, pass, sizeof pass, none, 0, 0},
+    {"check-64", CHECK, mixed, sizeof mixed, none, 0, 0},
+    {"check-1024", CHECK, stops, sizeof stops, none, 0, 0},
+    {"check-1024-sends", CHECK, sends, sizeof sends, none, 0, 0},
+    {"fit-2", FIT, pass, sizeof pass, none, 0, 0},
+    {"fit-16", FIT, close15, sizeof close15, all_wait, 30, 0},
+};
 
-/* A start, the turns of the pairs, and then N times one turn from the state that they lead to. */
-static void rounds(const uint8_t *image, size_t n, const uint8_t *pairs, size_t pairs_n, _Bool whole, uint8_t task) {
-#ifdef PLAIN
-    static plain_machine from, m;
-    const uint8_t *trailer = image + n - 8, *body = trailer - (trailer[4] + 256 * trailer[5]);
-    plain_start(image, n, &from);
-    for (size_t i = 0; i + 1 < pairs_n; i += 2) plain_turn(image, n, &from, pairs[i], pairs[i + 1]);
-    for (int i = 0; i < N; i++) {
-        __builtin_memcpy(&m, &from, sizeof m);
-        if (whole) plain_turn(image, n, &m, task, 0);
-        else plain_step(body, trailer[0] + 256u * trailer[1], &m, task, 0);
+static int library_rounds(const kind_t *k, uint32_t n) {
+    switch (k->what) {
+    case FIT: return bench_fit(k->image, k->n, k->pairs, k->pairs_n, n) != n;
+    case CHECK:
+        for (; n; n--) if (bench_check(k->image, k->n)) return 1;
+        return 0;
+    default: return bench_rounds(k->image, k->n, k->pairs, k->pairs_n, k->what == TURN, k->task, 0, n) != k->pairs_n / 2 + n;
     }
-#else
-    bench_rounds(image, n, pairs, pairs_n, whole, task, 0, N);
-#endif
 }
-
-static int checks(void) {
-    size_t place = 0;
-    (void)place;
-    make_long();
-    for (int i = 0; i < N; i++) {
-#ifdef PLAIN
-        if (plain_check(long_image, sizeof long_image, &place)) return 1;
-#else
-        if (bench_check(long_image, sizeof long_image)) return 1;
-#endif
+/* Each round begins at the same state. Copied by the byte, so that no memcpy is counted as a turn's. */
+static void again(plain_machine *m, const plain_machine *from) {
+    for (size_t i = 0; i < sizeof *m; i++) ((volatile uint8_t *)m)[i] = ((const uint8_t *)from)[i];
+}
+static int plain_round(const kind_t *k, const plain_machine *from) {
+    static plain_machine m;
+    const uint8_t *trailer = k->image + k->n - 8, *body = trailer - (trailer[4] + 256 * trailer[5]);
+    unsigned rows = trailer[0] + 256u * trailer[1];
+    size_t place;
+    switch (k->what) {
+    case FIT: return !plain_fits(body, rows, trailer[2], trailer[3], from);
+    case CHECK: return plain_check(k->image, k->n, &place);
+    case TURN: again(&m, from); plain_turn(k->image, k->n, &m, k->task, 0); break;
+    default: again(&m, from); plain_step(body, rows, &m, k->task, 0);
     }
+    return m.stamp != from->stamp + 1;
+}
+static int plain_rounds(const kind_t *k, uint32_t n) {
+    static plain_machine from;
+    if (plain_start(k->image, k->n, &from)) return 1;
+    for (size_t i = 0; i + 1 < k->pairs_n; i += 2) plain_turn(k->image, k->n, &from, k->pairs[i], k->pairs[i + 1]);
+    for (; n; n--) if (plain_round(k, &from)) return 1;
     return 0;
 }
-
-static int translations(int depth, const char *block) {
+/* A text is translated by both first, and their images compared. */
+static int translations(uint32_t rounds, int plain, int depth, const char *block) {
     static uint8_t other[sizeof image_out];
     plain_refusal r;
     make_text(depth, block);
     size_t n = bench_translate(text, sizeof text, image_out, sizeof image_out);
     if (n == 0 || n != plain_translate(text, sizeof text, other, sizeof other, &r)) return 1;
     for (size_t i = 0; i < n; i++) if (image_out[i] != other[i]) return 1;
-    for (int i = 0; i < N; i++) {
-#ifdef PLAIN
-        plain_translate(text, sizeof text, other, sizeof other, &r);
-#else
-        bench_translate(text, sizeof text, image_out, sizeof image_out);
-#endif
+    for (; rounds; rounds--) {
+        if (plain) plain_translate(text, sizeof text, other, sizeof other, &r);
+        else bench_translate(text, sizeof text, image_out, sizeof image_out);
     }
     return 0;
 }
 
-int bench(void) {
-    switch (KIND) {
-    case 0: rounds(pass, sizeof pass, none, 0, 0, 0); return 0;          /* a send into a buffer of one */
-    case 1: rounds(pass, sizeof pass, one_turn, 2, 0, 1); return 0;      /* a receive from it */
-    case 2: rounds(select8, sizeof select8, none, 0, 0, 0); return 0;    /* a select of 8 cases, the last one ready */
-    case 3: rounds(close15, sizeof close15, all_wait, 30, 0, 15); return 0; /* a close that wakes 15 */
-    case 4: rounds(pass, sizeof pass, none, 0, 1, 0); return 0;          /* the send as a whole turn: image check of 4 rows, fit, step */
-    case 5: make_long(); rounds(long_image, sizeof long_image, none, 0, 1, 0); return 0; /* the same on an image of 1,024 rows */
-    case 6: return checks();                                             /* the check of that image */
-    case 7: return translations(0, "");                                  /* a text of 16,384 bytes */
-    case 8: return translations(6, "repeat 1 ");                         /* the same inside six blocks */
-    default: return translations(6, "select case recv 0 ");
+static int same(const char *a, const char *b) {
+    while (*a && *a == *b) { a++; b++; }
+    return *a == *b;
+}
+int main(int argc, char **argv) {
+    uint32_t n = 0;
+    if (argc < 3) return 2;
+    for (const char *d = argv[2]; *d; d++) n = 10 * n + (uint32_t)(*d - '0');
+    int plain = argc > 3;
+    make_long(stops, 1);
+    make_long(sends, 1022);
+    for (size_t i = 0; i < sizeof kinds / sizeof kinds[0]; i++) {
+        if (same(argv[1], kinds[i].name)) return plain ? plain_rounds(&kinds[i], n) : library_rounds(&kinds[i], n);
     }
+    if (same(argv[1], "flat")) return translations(n, plain, 0, "");
+    if (same(argv[1], "repeats")) return translations(n, plain, 6, "repeat 1 ");
+    if (same(argv[1], "selects")) return translations(n, plain, 6, "select case recv 0 ");
+    return 2;
 }

@@ -1,51 +1,141 @@
 #!/bin/sh
-# Exact x86-64 instructions of one turn by its kind, one image check and one translation: a run of N rounds and one of 2N, and their
-# difference divided by N, so that everything but the rounds falls out. The compiler is the kit's (or CC=..), the program is static and freestanding, and an
-# emulator counts: the kit's on Arm, else Debian's qemu-user. A benchmark and no test.
+# Exact x86-64 instructions of one turn, one image check, one fit and one translation, by the library and by plain C: a run of N
+# rounds and one of 2N, and their difference divided by N, so that everything but the rounds falls out. A benchmark and no test.
+#
+# On x86-64 the program is an ordinary one with the C library's memcpy, and valgrind counts; where there is none it is installed.
+# Elsewhere, or where that fails, the program is freestanding with the memcpy of start.c, and an emulator counts: the kit's on
+# Arm, else Debian's qemu-user.
+#
+# usage: [CC=gcc] [N=10] [WAY=emulated] [EMU=qemu-x86_64] count.sh [KIND...]
+#     the kinds are those of bench.c, all of them unless some are named; CC, a compiler for x86-64, is the kit's clang and with
+#     it the kit's C library unless it is set
 set -eu
 cd "$(dirname "$0")/../.."
-kit=${RATTLE_HOME:-$(cd "$(dirname "$(readlink -f "$(command -v rt)")")/.." && pwd -P)}
-tools=$kit/on/$(uname -m)/toolchain n=${N:-10} out=target/count
-emu=${EMU:-$tools/bin/qemu-x86_64}
-[ -x "$emu" ] || emu=$(command -v qemu-x86_64) || { apt-get install -y qemu-user >&2; emu=qemu-x86_64; }
-one=-singlestep
-if "$emu" --help | grep -q one-insn-per-tb; then one=-one-insn-per-tb; fi
-cc=${CC:-"$tools/bin/clang --target=x86_64-unknown-linux-gnu -nostdinc -isystem tests/count/shim"}
-flags="-std=gnu11 -O2 -ffreestanding -fno-pic -fno-stack-protector -fno-asynchronous-unwind-tables"
-[ -f target/staticlib/libbench.a ] || rt staticlib bench >&2
-mkdir -p $out
-$cc $flags -fno-builtin -c tests/count/start.c -o $out/start.o
-$cc $flags -c tests/count/plain.c -o $out/plain.o
-count() { # count KIND WHO FLAG: the instructions of one round, by function
-    for k in $n $((2 * n)); do
-        $cc $flags $3 -DN=$k -DKIND=$1 -c tests/count/bench.c -o $out/bench.o
-        "$tools/bin/ld.lld" -static --gc-sections -o $out/bench$k $out/start.o $out/bench.o $out/plain.o target/staticlib/libbench.a
-        rm -f $out/pipe
-        mkfifo $out/pipe
-        awk '/^Trace/ { c[$NF]++ } END { for (k in c) print k, c[k] }' $out/pipe | sort >$out/$k.txt &
-        "$emu" $one -d exec,nochain -D $out/pipe $out/bench$k || { echo "count: bench failed" >&2; exit 1; }
-        wait $!
+. bin/runner.sh
+. tests/count/archive.sh
+# The rounds of the fit are in an archive of their own, so that in each the fit has one caller and is laid into it, as in the product.
+for crate in bench bench_fit; do archive $crate; done
+archives="$out/libbench.a $out/libbench_fit.a"
+way=${WAY:-native}
+if [ "$(uname -m)" != x86_64 ]; then
+    way=emulated
+elif [ "$way" = native ] && ! command -v valgrind >/dev/null && ! apt-get install -y valgrind >&2; then
+    echo "count: valgrind is not here and could not be installed" >&2
+    way=emulated
+fi
+compiler=$(${CC:-"$tools/bin/clang"} --version | head -n 1)
+
+# the same code by every compiler: what some distributions switch on by default stays off
+plainly="-fno-stack-protector -fcf-protection=none -fno-asynchronous-unwind-tables"
+build_native() {
+    # shellcheck disable=SC2086 # words
+    for f in bench plain; do compile tests/count/$f.c $out/$f.o $plainly -fPIE; done
+    if [ -n "${CC:-}" ]; then
+        # shellcheck disable=SC2086 # a compiler with its arguments
+        $CC -pie -o $out/bench $out/bench.o $out/plain.o $archives
+        memory="this machine's C library, $(ldd --version | head -n 1)"
+    else
+        # shellcheck disable=SC2086 # words
+        "$kit/on/$(uname -m)/bin/rattle-link" --target x86_64-unknown-linux-gnu --toolchain "$tools" -o $out/bench $out/bench.o $out/plain.o $archives 2>$out/log || { cat $out/log >&2; exit 1; }
+        memory="the kit's C library, $("$loader" --version | head -n 1)"
+    fi
+    echo "count: native instructions, by $(valgrind --version)" >&2
+}
+build_emulated() {
+    emulator=${EMU:-${emulator:-$(command -v qemu-x86_64 || true)}}
+    [ -n "$emulator" ] || { apt-get install -y qemu-user >&2; emulator=qemu-x86_64; }
+    one=-singlestep
+    if "$emulator" --help | grep -q one-insn-per-tb; then one=-one-insn-per-tb; fi
+    # shellcheck disable=SC2086 # words
+    for f in bench plain; do compile tests/count/$f.c $out/$f.o $plainly -ffreestanding -fno-pic; done
+    # shellcheck disable=SC2086 # words
+    freestanding $out/bench $out/bench.o $out/plain.o $archives
+    memory="a loop of eight bytes at a time, start.c"
+    echo "count: emulated instructions, by $("$emulator" --version | head -n 1)" >&2
+}
+
+# native ARGUMENT..: what each function executed itself, as lines NAME tab COUNT; of the C library the rounds call memcpy, memmove
+# and memset alone, and all three are named memcpy. valgrind's processor has AVX2 and no AVX-512: under it glibc takes
+# __memcpy_avx_unaligned_erms on every machine that has AVX2, where a newer one by itself would take an AVX-512 variant.
+native() {
+    program=$out/bench
+    [ -n "${CC:-}" ] || set -- "$program" "$@"
+    [ -n "${CC:-}" ] || program=$loader
+    [ -n "${CC:-}" ] || set -- --library-path "$library" "$@"
+    valgrind -q --tool=callgrind --compress-strings=no --compress-pos=no --callgrind-out-file=$out/callgrind "$program" "$@" || return 1
+    awk '
+        /^ob=/ { memory = /\/libc\.so/; next }
+        /^fn=/ { name = memory ? "memcpy" : substr($0, 4); sub(/\047[0-9]+$/, "", name); next }
+        /^calls=/ { inclusive = 1; next }
+        /^[0-9]/ { if (!inclusive) c[name] += $2; inclusive = 0 }
+        END { for (name in c) printf "%s\t%.0f\n", name, c[name] }' $out/callgrind
+}
+# The same of a program under the emulator, which logs every instruction: through a pipe, since the log has gigabytes.
+emulated() {
+    rm -f $out/pipe
+    mkfifo $out/pipe
+    awk '/^Trace/ { c[$NF]++ } END { for (name in c) printf "%s\t%.0f\n", name, c[name] }' $out/pipe &
+    "$emulator" "$one" -d exec,nochain -D $out/pipe $out/bench "$@" || { kill $!; return 1; }
+    wait $!
+}
+# count KIND ROUNDS WHO [plain]: the instructions of one round, by function, and in the file $out/total their sum and the memcpy in
+# it. What stands around the rounds is shown and left out: some 10 instructions a round around the library's, more where the
+# compiler has laid what is counted into the loop, and then the count is wrong. The fit is laid into bench_fit, which is therefore
+# counted whole: some 8 instructions of it are the loop's.
+count() {
+    kind=$1 n=$2 who=$3
+    shift 3
+    for k in "$n" $((2 * n)); do
+        $way "$kind" "$k" "$@" >$out/"$k" || { echo "count: bench $kind failed" >&2; exit 1; }
     done
-    # what stands around the rounds, and the copy by which plain C begins each at the same state, is left out
-    join -a 2 -e 0 -o 0,1.2,2.2 $out/$n.txt $out/$((2 * n)).txt | awk -v n="$n" -v who="$2" '
-        $1 == "bench" || $1 == "rounds" || $1 == "bench_rounds" { next }
-        who == "plain C" && $1 == "memcpy" { next }
-        $3 > $2 { v = ($3 - $2) / n; t += v; printf "        %-36s %12.1f\n", $1, v }
-        END { printf "    %-40s %12.1f\n", who, t }'
+    sort -t "$tab" -k 2,2nr $out/$((2 * n)) >$out/twice
+    awk -F '\t' -v n="$n" -v who="$who" -v total="$out/total" '
+        FNR == NR { once[$1] = $2; next }
+        $2 <= once[$1] { next }
+        { v = ($2 - once[$1]) / n }
+        $1 ~ /^(main|library_rounds|plain_rounds?|again|translations|bench_rounds|bench::.*)$/ { around[$1] = v; next }
+        { t += v; printf "        %-36s %12.1f\n", $1, v }
+        $1 ~ /^mem(cpy|move|set)$/ { m += v }
+        END {
+            printf "    %-40s %12.1f\n", who, t
+            for (name in around) { a += around[name]; printf "        (around it: %s %.1f)\n", name, around[name] }
+            if (who == "library" && a > 50) print "count: the loop itself takes " a " instructions, so the count is not to be trusted" >"/dev/stderr"
+            printf "%.1f %.1f\n", t, m >total
+        }' $out/"$n" $out/twice
 }
-kind() { # kind KIND NAME
-    echo "$2"
-    count $1 library ""
-    count $1 "plain C" -DPLAIN
+kind() { # kind KIND ROUNDS NAME
+    case " $kinds " in "  " | *" $1 "*) ;; *) return 0 ;; esac
+    echo "$3"
+    count "$1" "$2" library
+    library_total=$(cat $out/total)
+    count "$1" "$2" 'plain C' plain
+    echo "$library_total $(cat $out/total)" | awk -v name="$3" '
+        function commas(v, s) {
+            s = sprintf("%.0f", v)
+            while (match(s, /[0-9][0-9][0-9][0-9]($|,)/)) s = substr(s, 1, RSTART) "," substr(s, RSTART + 1)
+            return s
+        }
+        { printf "| %s | %s | %s | %s | %.2f |\n", name, commas($1), commas($2), commas($3), $1 / $3 }' >>$out/table
 }
-kind 0 'send into a buffer of one'
-kind 1 'receive from a buffer of one'
-kind 2 'select of 8 cases, the last one ready'
-kind 3 'close that wakes 15'
-kind 4 'send as a whole turn, image of 4 rows'
-n=1
-kind 5 'send as a whole turn, image of 1,024 rows'
-kind 6 'check of an image of 1,024 rows'
-kind 7 'translation of 16,384 bytes, depth 0'
-kind 8 'translation of 16,384 bytes, six repeats deep'
-kind 9 'translation of 16,384 bytes, six selects deep'
+kinds="$*" rounds=${N:-10} tab=$(printf '\t')
+"build_$way"
+printf '| | library | of it memcpy | plain C | library / plain C |\n|---|---|---|---|---|\n' >$out/table
+kind send "$rounds" 'send into a buffer of one (step alone)'
+kind receive "$rounds" 'receive from a buffer of one (step alone)'
+kind select "$rounds" 'select of 8 cases, the last one ready (step alone)'
+kind close "$rounds" 'close that wakes 15 (step alone)'
+kind turn-4 "$rounds" 'send as a whole turn, image of 4 rows'
+kind turn-32 "$rounds" 'close that wakes 15 as a whole turn, image of 32 rows'
+kind turn-1024 1 'send as a whole turn, image of 1,024 rows'
+kind check-4 "$rounds" 'check of an image of 4 rows'
+kind check-64 "$rounds" 'check of an image of 64 rows of every kind'
+kind check-1024 1 'check of an image of 1,024 rows, stops'
+kind check-1024-sends 1 'check of an image of 1,024 rows, sends'
+kind fit-2 "$rounds" 'fit of 2 tasks, nobody waiting'
+kind fit-16 "$rounds" 'fit of 16 tasks, 15 waiting'
+kind flat 1 'translation of 16,384 bytes, depth 0'
+kind repeats 1 'translation of 16,384 bytes, six repeats deep'
+kind selects 1 'translation of 16,384 bytes, six selects deep'
+[ "$(wc -l <$out/table)" -gt 2 ] || { echo "count: no such kind: $kinds" >&2; exit 2; }
+echo "$way; C by $compiler, -O2; memcpy: $memory"
+cat $out/table

@@ -37,3 +37,54 @@ static const uint8_t close15[297] = {
     0, 16, 0, 18, 0, 20, 0, 22, 0, 24, 0, 26, 0, 28, 0, 30,
     0, 32, 0, 1, 16, 33, 1, 90, 1,
 };
+/* Rows of every kind, sixteen to a task:
+   chan 1 chan 0 chan 16 chan 2
+   task repeat 3 send 0 7 recv 1 ifok forward 2 else close 3 end end range 0 send 2 65535 end
+     select case send 0 9 case forward 1 recv 2 case recv 3 default send 1 1 end stop end
+   task range 1 select case recv 0 forward 2 case recv 1 case recv 2 send 3 8 case send 3 4 case forward nil end end
+     ifok send 0 1 end repeat 255 recv nil close 2 end stop end
+   task select case send 0 1 case send 1 2 case send 2 3 case forward 0 case forward 3 case recv 1 case recv 2 case recv nil default recv 0 end
+     send 0 1 forward 1 range 2 recv 3 end close 1 end
+   task repeat 2 repeat 3 ifok recv 0 else select case send 1 2 case recv 1 end end end end select default send 3 3 end
+     send 2 2 recv 2 range 0 forward 1 end close 0 stop end */
+static const uint8_t mixed[532] = {
+    6, 0, 3, 0, 1, 0, 6, 0, 1, 0, 7, 0, 2, 0, 0, 0,
+    3, 1, 0, 0, 3, 0, 0, 0, 7, 0, 0, 0, 4, 0, 5, 0,
+    2, 2, 0, 0, 0, 0, 0, 0, 4, 3, 0, 0, 0, 0, 0, 0,
+    5, 0, 0, 0, 7, 0, 8, 0, 1, 2, 255, 255, 6, 0, 0, 0,
+    8, 3, 1, 0, 13, 0, 0, 0, 9, 0, 9, 0, 14, 0, 0, 0,
+    10, 1, 0, 0, 12, 0, 0, 0, 11, 3, 0, 0, 14, 0, 0, 0,
+    3, 2, 0, 0, 14, 0, 0, 0, 1, 1, 1, 0, 14, 0, 0, 0,
+    12, 0, 0, 0, 0, 0, 0, 0, 12, 0, 0, 0, 0, 0, 0, 0,
+    5, 1, 0, 0, 17, 0, 25, 0, 8, 5, 0, 0, 0, 0, 0, 0,
+    11, 0, 0, 0, 23, 0, 0, 0, 11, 1, 0, 0, 16, 0, 0, 0,
+    11, 2, 0, 0, 24, 0, 0, 0, 9, 3, 4, 0, 16, 0, 0, 0,
+    10, 255, 0, 0, 16, 0, 0, 0, 2, 2, 0, 0, 16, 0, 0, 0,
+    1, 3, 8, 0, 16, 0, 0, 0, 7, 0, 0, 0, 26, 0, 27, 0,
+    1, 0, 1, 0, 27, 0, 0, 0, 6, 0, 255, 0, 28, 0, 30, 0,
+    3, 255, 0, 0, 29, 0, 0, 0, 4, 2, 0, 0, 27, 0, 0, 0,
+    12, 0, 0, 0, 0, 0, 0, 0, 12, 0, 0, 0, 0, 0, 0, 0,
+    8, 8, 1, 0, 41, 0, 0, 0, 9, 0, 1, 0, 42, 0, 0, 0,
+    9, 1, 2, 0, 42, 0, 0, 0, 9, 2, 3, 0, 42, 0, 0, 0,
+    10, 0, 0, 0, 42, 0, 0, 0, 10, 3, 0, 0, 42, 0, 0, 0,
+    11, 1, 0, 0, 42, 0, 0, 0, 11, 2, 0, 0, 42, 0, 0, 0,
+    11, 255, 0, 0, 42, 0, 0, 0, 3, 0, 0, 0, 42, 0, 0, 0,
+    1, 0, 1, 0, 43, 0, 0, 0, 2, 1, 0, 0, 44, 0, 0, 0,
+    5, 2, 0, 0, 45, 0, 46, 0, 3, 3, 0, 0, 44, 0, 0, 0,
+    4, 1, 0, 0, 47, 0, 0, 0, 12, 0, 0, 0, 0, 0, 0, 0,
+    6, 0, 2, 0, 49, 0, 55, 0, 6, 1, 3, 0, 50, 0, 48, 0,
+    7, 0, 0, 0, 51, 0, 52, 0, 3, 0, 0, 0, 49, 0, 0, 0,
+    8, 2, 0, 0, 0, 0, 0, 0, 9, 1, 2, 0, 49, 0, 0, 0,
+    11, 1, 0, 0, 49, 0, 0, 0, 8, 0, 1, 0, 56, 0, 0, 0,
+    1, 3, 3, 0, 57, 0, 0, 0, 1, 2, 2, 0, 58, 0, 0, 0,
+    3, 2, 0, 0, 59, 0, 0, 0, 5, 0, 0, 0, 60, 0, 61, 0,
+    2, 1, 0, 0, 59, 0, 0, 0, 4, 0, 0, 0, 62, 0, 0, 0,
+    12, 0, 0, 0, 0, 0, 0, 0, 12, 0, 0, 0, 0, 0, 0, 0,
+    1, 0, 16, 2, 0, 0, 16, 0, 32, 0, 48, 0, 64, 0, 4, 4,
+    12, 2, 90, 1,
+};
+/* The image of no job: its last row is a case row, and the capacity behind it, 10, would pass for one more. */
+static const uint8_t at_end[27] = {
+    8, 1, 0, 0, 0, 0, 0, 0, 11, 0, 0, 0, 0, 0, 0, 0,
+    10, 0, 0, 2, 0, 1, 1, 19, 0, 90, 1,
+};

@@ -12,6 +12,7 @@ typedef struct {
 } plain_machine;
 size_t plain_translate(const uint8_t *text, size_t n, uint8_t *image, size_t room, plain_refusal *r); /* 0: refused */
 uint8_t plain_check(const uint8_t *image, size_t n, size_t *place);                                    /* 0: good */
+int plain_fits(const uint8_t *body, unsigned rows, unsigned channels, unsigned tasks, const plain_machine *m);
 uint8_t plain_start(const uint8_t *image, size_t n, plain_machine *m);
 plain_event plain_step(const uint8_t *body, unsigned rows, plain_machine *m, unsigned t, unsigned choice);
 plain_event plain_turn(const uint8_t *image, size_t n, plain_machine *m, unsigned t, unsigned choice);

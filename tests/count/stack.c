@@ -1,11 +1,12 @@
 /* Bytes of stack of one translation, one image check and one turn: each is called on a painted stack of its own, and what is no
    longer paint is counted, less what a call that does nothing needs. */
 #include "images.h"
+#include "say.h"
 #include "texts.h"
 #define AREA 65536
 #define PAINT 0xA5
 size_t bench_translate(const uint8_t *text, size_t n, uint8_t *image, size_t image_n);
-uint8_t bench_check(const uint8_t *image, size_t n);
+uint32_t bench_check(const uint8_t *image, size_t n);
 uint16_t bench_rounds(const uint8_t *image, size_t n, const uint8_t *pairs, size_t pairs_n, _Bool whole, uint8_t task, uint8_t choice, uint32_t rounds);
 static const uint8_t none[1];
 
@@ -14,19 +15,6 @@ static void translation(void) { bench_translate(text, sizeof text, image_out, si
 static void image_check(void) { bench_check(pass, sizeof pass); }
 static void whole_turn(void) { bench_rounds(pass, sizeof pass, none, 0, 1, 0, 0, 1); }
 
-static void write_out(const char *s, size_t n) {
-    long r = 1;
-    __asm__ volatile("syscall" : "+a"(r) : "D"(1L), "S"(s), "d"(n) : "rcx", "r11", "memory");
-}
-static void say(const char *name, size_t n) {
-    char line[80], digits[20];
-    size_t k = 0, d = 0;
-    for (; name[k]; k++) line[k] = name[k];
-    do digits[d++] = (char)('0' + n % 10); while (n /= 10);
-    while (d) line[k++] = digits[--d];
-    line[k++] = '\n';
-    write_out(line, k);
-}
 static size_t used(void (*f)(void)) {
     static uint8_t area[AREA] __attribute__((aligned(16)));
     for (size_t i = 0; i < AREA; i++) area[i] = PAINT;
@@ -37,7 +25,7 @@ static size_t used(void (*f)(void)) {
     while (i < AREA && area[i] == PAINT) i++;
     return AREA - i;
 }
-int bench(void) {
+int main(void) {
     size_t base = used(nothing);
     make_text(0, "");
     say("translation of 16,384 bytes, depth 0: ", used(translation) - base);

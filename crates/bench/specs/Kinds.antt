@@ -1,4 +1,4 @@
--- Every kind that this crate speaks of, its own and those of the crates below.
+-- Every kind that this crate speaks of, all of the crates below.
 pub use Rattle.meaning.specs.declared.Task.{Task}
 pub use Rattle.image_check.specs.declared.Checked.{Checked}
 pub use Rattle.translate.specs.declared.Translated.{Translated}

@@ -1,7 +1,9 @@
 // Rounds of one turn, for counting instructions: a job is started, brought by a schedule to the turn that is asked about, and that
-// turn is then made again and again from the same state. A benchmark and no test; tests/count runs it.
+// turn is then made again and again from the same state. The rounds of a fit are crate bench_fit's, so that the turn is the fit's
+// only caller here, as in the product. A benchmark and no test; tests/count runs it.
 ghost use mathlib.Core.Path.{_≡_};
-ghost use Rattle.bench.specs.Bench.{taskNo, stepRounds, turnRounds, roundsOf, afterPairs};
+ghost use Rattle.meaning.specs.Image.{taskNo};
+ghost use Rattle.bench.specs.Bench.{stepRounds, turnRounds, roundsOf, afterPairs};
 ghost use Rattle.machine.specs.Public.{started, freshValues};
 use image_rows::bytes::body_of;
 use image_rows::bytes::counts_in;
@@ -59,6 +61,7 @@ fn turn_rounds(
     s.stamp
 }
 
+// Bare steps, or whole turns with the image check and the fit.
 fn rounds_of(
     image: &[u8],
     whole: bool,
@@ -71,25 +74,15 @@ fn rounds_of(
     ensures { λ r. ⌜ r ≡ roundsOf (now (image .entry)) t choice rounds whole s values ⌝ }
 {
     if whole {
-        turn_rounds(image, s, values, t, choice, rounds)
-    } else {
-        let k = counts_in(trailer_of(image));
-        step_rounds(body_of(image), k.rows, s, &values, t, choice, rounds)
+        return turn_rounds(image, s, values, t, choice, rounds);
     }
+    let k = counts_in(trailer_of(image));
+    step_rounds(body_of(image), k.rows, s, &values, t, choice, rounds)
 }
 
-// Starts the image, makes the turns of the pairs, and then the rounds of one turn: bare steps, or whole turns with the image
-// check and the fit. Answers the stamp.
-#[no_mangle]
-pub extern "C" fn bench_rounds(
-    image: &[u8],
-    pairs: &[u8],
-    whole: bool,
-    task: u8,
-    choice: u8,
-    rounds: u32,
-) -> u16
-    ensures { λ r. ⌜ r ≡ afterPairs (now (image .entry)) (taskNo task) choice rounds whole (now (pairs .entry)) (started (now (image .entry)) .state) freshValues ⌝ }
+// Starts the image, makes the turns of the pairs, and then the rounds.
+fn after_pairs(image: &[u8], pairs: &[u8], whole: bool, task: Task, choice: u8, rounds: u32) -> u16
+    ensures { λ r. ⌜ r ≡ afterPairs (now (image .entry)) task choice rounds whole (now (pairs .entry)) (started (now (image .entry)) .state) freshValues ⌝ }
 {
     let begun = start(image);
     let mut s = begun.state;
@@ -106,5 +99,20 @@ pub extern "C" fn bench_rounds(
         s = next;
         i = i + 2;
     }
-    rounds_of(image, whole, s, values, Task(task), choice, rounds)
+    rounds_of(image, whole, s, values, task, choice, rounds)
+}
+
+// Rounds of one turn: bare steps, or whole turns with the image check and the fit. Answers the stamp.
+#[no_mangle]
+pub extern "C" fn bench_rounds(
+    image: &[u8],
+    pairs: &[u8],
+    whole: bool,
+    task: u8,
+    choice: u8,
+    rounds: u32,
+) -> u16
+    ensures { λ r. ⌜ r ≡ afterPairs (now (image .entry)) (taskNo task) choice rounds whole (now (pairs .entry)) (started (now (image .entry)) .state) freshValues ⌝ }
+{
+    after_pairs(image, pairs, whole, Task(task), choice, rounds)
 }

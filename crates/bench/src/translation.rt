@@ -3,7 +3,7 @@ ghost use mathlib.Core.Path.{_≡_};
 ghost use lib.ListN.{length};
 ghost use Rattle.image_check.specs.Check.{checked};
 ghost use Rattle.translate.specs.Translated.{translated, written};
-ghost use Rattle.bench.specs.Translation.{lengthOf, numberOf};
+ghost use Rattle.bench.specs.Translation.{lengthOf, refusalOf};
 use image_check::Checked;
 use image_check::check;
 use translate::Translated;
@@ -20,13 +20,13 @@ pub extern "C" fn bench_translate(text: &[u8], image: &mut [u8]) -> usize
     }
 }
 
-// The check's refusal, or 0.
+// The number and 256 times the place of the check's refusal, or 0.
 #[no_mangle]
-pub extern "C" fn bench_check(image: &[u8]) -> u8
-    ensures { λ r. ⌜ r ≡ numberOf (checked (now (image .entry))) ⌝ }
+pub extern "C" fn bench_check(image: &[u8]) -> u32
+    ensures { λ r. ⌜ r ≡ refusalOf (checked (now (image .entry))) ⌝ }
 {
     match check(image) {
         Checked::Good => 0,
-        Checked::Refused(number, _) => number,
+        Checked::Refused(number, place) => number as u32 + 256 * (place as u32),
     }
 }

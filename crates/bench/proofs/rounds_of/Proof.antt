@@ -1,22 +1,19 @@
-use Rattle.image_rows.specs.Rows.{countsIn}
-use Rattle.meaning.specs.Bytes.{rowCount}
-use mathlib.Core.Path.{_∙_}
 use borrow.Author.Needs.{needs}
+use Rattle.image_rows.specs.Rows.{countsOf}
 use Rattle.bench.proofs.rounds_of.Statement.{statement}
 use Rattle.bench.proofs.rounds_of.Tie as tie
 
+returns : tie.Need-returns
+returns c = rw (c .turn-rounds .ensures, c .before .if1 .taken)
+
 returns-2 : tie.Need-returns-2
-unfolding rowCount countsIn
-returns-2 c = rw (c .before .before .before .before .before .if1 .left, ← c .before .before .body-of .ensures, ← c .before .before .before .before .trailer-of .ensures) (c .step-rounds .ensures ∙ rw (c .before .before .before .counts-in .ensures))
+unfolding countsOf
+returns-2 c =
+    let b = c .before .before in
+    let k = b .before in
+    rw (c .step-rounds .ensures, b .body-of .ensures, k .counts-in .ensures, k .before .trailer-of .ensures, k .before .before .if1 .left)
 
 pub rounds-of-spec : {M : Type 1} → statement M
 rounds-of-spec =
     tie.close
-    (tie.spec
-    (λ c κs. search needs)
-    (λ c κs. search needs)
-    (λ c κs. search needs)
-    (λ c κs. search needs)
-    (λ c κs. search needs)
-    (λ c. rw (c .before .if1 .taken) (c .turn-rounds .ensures))
-    returns-2)
+    (tie.spec (λ c κs. search needs) returns (λ c κs. search needs) (λ c κs. search needs) (λ c κs. search needs) (λ c κs. search needs) returns-2)

@@ -1,5 +1,6 @@
 use borrow.Author.Needs.{needs}
-use Rattle.bench.specs.Bench.{stepRounds, step-round}
+use Rattle.bench.specs.laws.Bench.{step-round}
+use Rattle.bench.specs.Bench.{stepRounds}
 use denote.Ref.{now}
 use native.Mathlib.Omega.{arith}
 use mathlib.Core.Path.{_≡_, refl, sym, _∙_}
@@ -16,7 +17,8 @@ loop-again : tie.Need-loop-again Inv-loop μ-loop
 loop-again c =
     let a = c .before .before .before .before .before .args in
     let l = c .before .before .before .loop in
-    l .inv ∙ step-round (now (a .body)) (a .rows) (now (a .values)) (a .t) (a .choice) (l .left) (l .s) (c .before .before .loop-test .taken) ∙ rw (c .before .step .ensures)
+    let r = step-round (now (a .body)) (a .rows) (now (a .values)) (a .t) (a .choice) (l .left) (l .s) (c .before .before .loop-test .taken) in
+    l .inv ∙ r ∙ rw (c .before .step .ensures)
 
 returns : tie.Need-returns Inv-loop μ-loop
 unfolding stepRounds

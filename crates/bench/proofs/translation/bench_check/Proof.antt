@@ -1,18 +1,6 @@
 use borrow.Author.Needs.{needs}
 use Rattle.bench.proofs.translation.bench_check.Statement.{statement}
 use Rattle.bench.proofs.translation.bench_check.Tie as tie
-use Rattle.bench.proofs.translation.bench_check.Reads as reads
-use Rattle.bench.proofs.translation.bench_check.Lts as lts
-use Rattle.image_check.proofs.check.Reads as check-reads
-
-check-requires : tie.Need-check-requires
-check-requires c κs = search needs
-
-enum-told : tie.Need-enum-told
-enum-told c = search needs
-
-enum-known-number : tie.Need-enum-known-number
-enum-known-number c = search needs
 
 returns : tie.Need-returns
 returns c = rw (← c .before .before .check .ensures, c .enum-told .given .1)
@@ -22,4 +10,14 @@ returns-2 c = rw (← c .before .before .before .check .ensures, c .before .numb
 
 pub bench-check-spec : {M : Type 1} → statement M
 bench-check-spec =
-    tie.close (tie.spec check-requires enum-told enum-known-number returns returns-2)
+    tie.close
+    (tie.spec
+    (λ c κs. search needs)
+    (λ c. search needs)
+    (λ c. search needs)
+    (λ c. search needs)
+    (λ c. search needs)
+    (λ c. search needs)
+    (λ c. search needs)
+    returns
+    returns-2)

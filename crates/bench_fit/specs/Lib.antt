@@ -1,0 +1,2 @@
+pub mod FitRounds
+pub mod laws
