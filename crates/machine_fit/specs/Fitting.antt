@@ -4,7 +4,8 @@ use mathlib.Core.List.{List}
 use Prim.Native.Nat.{ℕ, zero, suc, _%_}
 use lib.Dec.{eqb, leb, ltb}
 use lib.ListN.{getD}
-use Rattle.machine_fit.specs.Kinds.{Task, Otherwise, Wait, Go, Statement, Do, Close, Range, Repeat, Ifok, Select, Case, Stop, Status, Able, Waiting, Ended, Counts, TaskState, State}
+use Rattle.machine_fit.specs.Kinds.{Otherwise, Wait, Go, Statement, Do, Close, Range, Repeat, Ifok, Select, Case, Stop, Status, Able, Waiting, Ended, Counts, TaskState, State}
+use Rattle.meaning.specs.Image.{chanNo, taskNo}
 use Rattle.meaning.specs.Numbers.{taskLimit, closeUnderSender}
 use Rattle.meaning.specs.Bytes.{rowsIn, capacityIn}
 use Rattle.image_check.specs.Check.{isTarget}
@@ -15,9 +16,6 @@ use Rattle.machine_state.specs.State.{blankTask, blankChan, orderOf}
 unfoldable pub every : (ℕ → Bool) → ℕ → ℕ → Bool
 every p zero i = true
 every p (suc n) i = p i && every p n (suc i)
-
-abbrev pub taskNo : ℕ → Task
-taskNo n = record { 0 = n }
 
 -- "an operation that can wait", by the kind of row: send, forward, recv and range, and a select without default
 abbrev pub noDefault : Otherwise → Bool
@@ -55,7 +53,7 @@ module _ (rs : List ℕ) (k : Counts) (s : State) where
 
   -- "each length is at most its capacity"
   unfoldable pub lengthFits : ℕ → Bool
-  lengthFits c = leb (getD (s .chans) (c % 16) blankChan .len) (capacityIn rs (k .rows) c)
+  lengthFits c = leb (getD (s .chans) (c % 16) blankChan .len) (capacityIn rs (k .rows) (chanNo c))
 
   -- "its task and channel counts are the image's, .. the fault is 0 to 4"
   unfoldable pub fitting : Bool

@@ -1,51 +1,39 @@
 // Whether a state fits an image, document 01's sentence test by test: refusal 17 is given exactly where this says no. `body` is
-// the image from row 0 on and `k` its counts.
+// the image from row 0 on and `k` its counts. One walk over the waiting order counts how often each task is named, and one walk
+// over the tasks holds each to its count.
 ghost use mathlib.Core.Path.{_≡_};
-ghost use Rattle.machine_fit.specs.Fitting.{every, noDefault, canWait, placeFits, recordFits, taskFits, lengthFits, nameFits, fitting};
+ghost use mathlib.Core.Bool.{true};
+ghost use Prim.Native.Nat.{_≤_, _<_};
+ghost use lib.ListN.{take, replicate};
+ghost use Rattle.machine_fit.specs.Fitting.{every, canWait, taskFits, fitting};
+ghost use Rattle.machine_fit.specs.Walks.{Counted, nameIn, lengthIn, placeNamed, recordNamed, walksFit};
+ghost use Rattle.meaning.specs.Bytes.{rowsIn};
 ghost use Rattle.meaning_laws.specs.Fits.{times, mark};
-ghost use Rattle.machine_state.specs.State.{orderOf};
 use image_check::row::is_target;
 use image_rows::Counts;
 use image_rows::table::capacity_in;
-use image_rows::table::statement_at;
+use image_rows::table::fields_of_row;
+use machine_state::ChanState;
 use machine_state::State;
 use machine_state::TaskState;
-use meaning::Otherwise;
-use meaning::Statement;
+use meaning::Chan;
+use meaning::Row;
 use meaning::Status;
+use meaning::Task;
 
-fn no_default(e: Otherwise) -> bool
-    ensures { λ r. ⌜ r ≡ noDefault e ⌝ }
+// Whether the operation of a row can wait. Its op tells, so that no statement is made of it: send, forward and recv are 1 to 3,
+// range is 5, and a select, 8, waits unless it has a default.
+fn can_wait(body: &[u8], row: Row) -> bool
+    ensures { λ r. ⌜ r ≡ canWait (rowsIn (now (body .entry)) row) ⌝ }
 {
-    match e {
-        Otherwise::Wait => true,
-        Otherwise::Go(_) => false,
+    let f = fields_of_row(body, row);
+    if f.op < 4 {
+        return 0 < f.op;
     }
-}
-
-fn can_wait(s: Statement) -> bool
-    ensures { λ r. ⌜ r ≡ canWait s ⌝ }
-{
-    match s {
-        Statement::Do(_, _) => true,
-        Statement::Close(_, _) => false,
-        Statement::Range(_, _, _) => true,
-        Statement::Repeat(_, _, _, _) => false,
-        Statement::Ifok(_, _) => false,
-        Statement::Select(_, e) => no_default(e),
-        Statement::Case(_, _) => false,
-        Statement::Stop => false,
+    if f.op == 8 {
+        return f.arg != 1;
     }
-}
-
-fn place_fits(status: Status, s: Statement) -> bool
-    ensures { λ r. ⌜ r ≡ placeFits status s ⌝ }
-{
-    match status {
-        Status::Able => true,
-        Status::Waiting => can_wait(s),
-        Status::Ended => true,
-    }
+    f.op == 5
 }
 
 // How often a task should stand in the order.
@@ -59,49 +47,78 @@ fn mark_of(status: Status) -> u8
     }
 }
 
-// How often task number t stands in the order.
-fn times_in(s: State, t: u8) -> u8
-    ensures { λ r. ⌜ r ≡ times (record { 0 = t }) (orderOf s) ⌝ }
+// Whether a task of this status, at this row and so often named, stands in the order as it should.
+fn place_fits(body: &[u8], row: Row, status: Status, named: u8) -> bool
+    ensures { λ r. ⌜ r ≡ placeNamed (now (body .entry)) row status named ⌝ }
 {
-    let n = (s.waiting % 17) as usize;
-    let order = s.order;
-    let mut i = 0;
+    if mark_of(status) == 1 {
+        if named == 1 {
+            return can_wait(body, row);
+        }
+        return false;
+    }
+    named == 0
+}
+
+// Whether a task that stands as x and is so often named fits.
+fn task_fits(body: &[u8], rows: u16, x: TaskState, named: u8) -> bool
+    ensures { λ r. ⌜ r ≡ recordNamed (now (body .entry)) rows x named ⌝ }
+{
+    let row = x.row;
+    let status = x.status;
+    if is_target(body, rows, row) {
+        return place_fits(body, row, status, named);
+    }
+    false
+}
+
+// How often a task stands in an order of n, by a walk of its own.
+fn times_in(order: [Task; 16], n: u8, t: Task) -> u8
+    requires { ⌜ n ≤ 16 ⌝ }
+    ensures { λ r. ⌜ r ≡ times t (take n order) ⌝ }
+{
+    let mut i: u8 = 0;
     let mut w: u8 = 0;
     while i < n {
-        let u = order[i];
+        let at = i as usize;
+        let u = order[at];
         i = i + 1;
-        if t == u.0 {
+        if t.0 == u.0 {
             w = w + 1;
         }
     }
     w
 }
 
-// Whether task number i, which stands as x, fits.
-fn task_fits(body: &[u8], k: Counts, s: State, x: TaskState, i: u8) -> bool
-    ensures { λ r. ⌜ r ≡ recordFits (now (body .entry)) k s x i ⌝ }
+// How often a task stands in an order of n: its cell tells. Where the counts say more than sixteen tasks, as no image that passes
+// the check does, two would share a cell, and the order is walked for each.
+fn times_of(k: Counts, order: [Task; 16], n: u8, named: &[u8; 16], t: Task) -> u8
+    requires waiting { ⌜ n ≤ 16 ⌝ }
+    requires counted { ⌜ (k .tasks ≤ 16 → Counted (now named) (take n order)) ⌝ }
+    requires below { ⌜ t .0 < k .tasks ⌝ }
+    ensures { λ r. ⌜ r ≡ times t (take n order) ⌝ }
 {
-    let row = x.row;
-    let status = x.status;
-    if is_target(body, k.rows, row) {
-        if times_in(s, i) == mark_of(status) {
-            return place_fits(status, statement_at(body, row.0 as u32));
-        }
-        return false;
+    if 16 < k.tasks {
+        return times_in(order, n, t);
     }
-    false
+    let at = (t.0 % 16) as usize;
+    named[at]
 }
 
-fn tasks_fit(body: &[u8], k: Counts, s: State) -> bool
+fn tasks_fit(body: &[u8], k: Counts, s: State, named: &[u8; 16]) -> bool
+    requires waiting { ⌜ s .waiting ≤ 16 ⌝ }
+    requires counted { ⌜ (k .tasks ≤ 16 → Counted (now named) (take (s .waiting) (s .order))) ⌝ }
     ensures { λ r. ⌜ r ≡ every (taskFits (now (body .entry)) k s) (k .tasks) 0 ⌝ }
 {
     let n = k.tasks;
     let tasks = s.tasks;
+    let order = s.order;
     let mut i: u8 = 0;
     while i < n {
         let at = (i % 16) as usize;
         let x = tasks[at];
-        if task_fits(body, k, s, x, i) {
+        let times = times_of(k, order, s.waiting, named, Task(i));
+        if task_fits(body, k.rows, x, times) {
             i = i + 1;
         } else {
             return false;
@@ -110,15 +127,15 @@ fn tasks_fit(body: &[u8], k: Counts, s: State) -> bool
     true
 }
 
-fn lengths_fit(body: &[u8], k: Counts, s: State) -> bool
-    ensures { λ r. ⌜ r ≡ every (lengthFits (now (body .entry)) k s) (k .channels) 0 ⌝ }
+fn lengths_fit(body: &[u8], k: Counts, chans: [ChanState; 16]) -> bool
+    ensures { λ r. ⌜ r ≡ every (lengthIn (now (body .entry)) k chans) (k .channels) 0 ⌝ }
 {
     let n = k.channels;
     let mut c: u8 = 0;
     while c < n {
         let at = (c % 16) as usize;
-        let channel = s.chans[at];
-        let capacity = capacity_in(body, k.rows, c as u16);
+        let channel = chans[at];
+        let capacity = capacity_in(body, k.rows, Chan(c));
         if capacity < channel.len {
             return false;
         }
@@ -127,23 +144,46 @@ fn lengths_fit(body: &[u8], k: Counts, s: State) -> bool
     true
 }
 
-fn names_fit(k: Counts, s: State) -> bool
-    ensures { λ r. ⌜ r ≡ every (nameFits k s) (s .waiting) 0 ⌝ }
+// Whether each of the n names in an order is a task's. The cells, which begin at 0, then tell how often each task is named.
+fn names_fit(k: Counts, order: [Task; 16], n: u8, named: &mut [u8; 16]) -> bool
+    requires waiting { ⌜ n ≤ 16 ⌝ }
+    requires fresh { ⌜ now named ≡ replicate 16 0 ⌝ }
+    ensures fit { λ r. ⌜ r ≡ every (nameIn k order) n 0 ⌝ }
+    ensures counted { λ r. ⌜ (r ≡ true → k .tasks ≤ 16 → Counted (now (named .exit)) (take n order)) ⌝ }
 {
-    let n = s.waiting;
     let mut i: u8 = 0;
     while i < n {
-        let at = (i % 16) as usize;
-        let t = s.order[at];
+        let at = i as usize;
+        let t = order[at];
         if k.tasks <= t.0 {
             return false;
         }
+        let cell = (t.0 % 16) as usize;
+        named[cell] = named[cell] + 1;
         i = i + 1;
     }
     true
 }
 
-// Whether a state fits an image.
+// The three walks: over the order, the channels and the tasks.
+fn walks_fit(body: &[u8], k: Counts, s: State) -> bool
+    requires waiting { ⌜ s .waiting ≤ 16 ⌝ }
+    ensures { λ r. ⌜ r ≡ walksFit (now (body .entry)) k s ⌝ }
+{
+    let order = s.order;
+    let chans = s.chans;
+    let mut named = [0u8; 16];
+    if names_fit(k, order, s.waiting, &mut named) {
+        if lengths_fit(body, k, chans) {
+            return tasks_fit(body, k, s, &named);
+        }
+        return false;
+    }
+    false
+}
+
+// Whether a state fits an image, for every body, counts and state. The tests of single numbers stand first: the walks count on an
+// order of at most sixteen.
 pub fn fits(body: &[u8], k: Counts, s: State) -> bool
     ensures { λ r. ⌜ r ≡ fitting (now (body .entry)) k s ⌝ }
 {
@@ -159,11 +199,5 @@ pub fn fits(body: &[u8], k: Counts, s: State) -> bool
     if 16 < s.waiting {
         return false;
     }
-    if names_fit(k, s) {
-        if lengths_fit(body, k, s) {
-            return tasks_fit(body, k, s);
-        }
-        return false;
-    }
-    false
+    walks_fit(body, k, s)
 }
