@@ -6,7 +6,7 @@ use lib.ListN.{length}
 use lib.Dec.{eqb, leb, ltb}
 use Rattle.image_check.specs.Kinds.{Row, Port, Nil, On, Op, Send, Forward, Recv, Otherwise, Wait, Go, Statement, Do, Close, Range, Repeat, Ifok, Select, Case, Stop, Fields, Counts, Checked, Good, Refused, First, Nowhere, At}
 use Rattle.meaning.specs.Numbers.{rowLimit, channelLimit, taskLimit, capacityLimit, caseLimit, lapLimit, depthLimit, imageTooShort, badMark, badVersion, badCounts, badDistance, badRow, badCapacity, badFirstRow}
-use Rattle.meaning.specs.Image.{rowNo}
+use Rattle.meaning.specs.Image.{rowNo, chanNo, taskNo}
 use Rattle.meaning.specs.Bytes.{fieldsOf, statementOf, trailerSize, imageMark, imageVersion, spanOf, markOf, versionOf, bodyOf, fieldsOfRow, capacityIn, firstRowIn}
 use Rattle.image_rows.specs.Rows.{countsOf}
 
@@ -71,7 +71,7 @@ module _ (rs : List ℕ) where
 
     -- "27 capacity over 16"
     unfoldable pub capacityBad : ℕ → Bool
-    capacityBad c = ltb capacityLimit (capacityIn rs rows c)
+    capacityBad c = ltb capacityLimit (capacityIn rs rows (chanNo c))
 
     -- And so many channels.
     module _ (channels : ℕ) where
@@ -95,7 +95,7 @@ module _ (rs : List ℕ) where
 
       -- "28 first row of a task not a row, or a case row"
       unfoldable pub firstRowBad : ℕ → Bool
-      firstRowBad t = not (isTarget (firstRowIn rs rows channels t))
+      firstRowBad t = not (isTarget (firstRowIn rs rows channels (taskNo t)))
 
 -- THE CHECK
 

@@ -1,3 +1,5 @@
 pub mod Kinds
 pub mod Check
+pub mod Table
+pub mod Sound
 pub mod laws

@@ -1,50 +1,90 @@
-// When a row is bad: the rule of document 01, 'What comes back', asked of the row at one number.
+// When a row is bad: document 01, 'What comes back'. A row is judged by its op, by a function for each line of the table of 'Step
+// image', which reads the fields that it asks for where they lie: no statement is made of them, and a target costs one byte.
+// Below `check` the slice is known to hold every row, so that no read asks for its end.
 ghost use mathlib.Core.Path.{_≡_};
-ghost use mathlib.Core.Bool.{_&&_};
-ghost use Prim.Native.Nat.{suc, _<_, _-_};
-ghost use lib.Dec.{leb, ltb};
-ghost use Rattle.meaning.specs.Numbers.{caseLimit, lapLimit, depthLimit};
-ghost use Rattle.meaning.specs.Bytes.{statementOf};
-ghost use Rattle.image_check.specs.Check.{inTable, owedAfter, isCaseRow, isTarget, portGood, opGood, otherwiseGood, casesFollow, statementGood, rowGood};
-use image_rows::table::fields_of;
-use image_rows::table::fields_of_row;
-use meaning::Fields;
-use meaning::Op;
-use meaning::Otherwise;
-use meaning::Port;
+ghost use Prim.Native.Nat.{suc, _+_, _-_, _*_, _<_, _≤_};
+ghost use lib.ListN.{length};
+ghost use Rattle.meaning.specs.Bytes.{rowSize, portOf, statementOf, fieldsOfRow};
+ghost use Rattle.image_check.specs.Check.{isCaseRow, isTarget, portGood, casesFollow, rowGood, owedAfter};
+ghost use Rattle.image_check.specs.Table.{targetsGood, sendGood, forwardGood, rangeGood, repeatGood, ifokGood, defaultGood, selectGood, stopGood};
+use image_rows::bytes::two_of;
 use meaning::Row;
-use meaning::Statement;
+use meaning::sizes::CASES;
+use meaning::sizes::DEPTH;
+use meaning::sizes::LAPS;
+use meaning::sizes::NIL;
+use meaning::sizes::ROW_SIZE;
 
-// Whether the table writes these five fields for s, the statement that they read as.
-fn in_table(f: Fields, s: Statement) -> bool
-    requires { ⌜ s ≡ statementOf f ⌝ }
-    ensures { λ r. ⌜ r ≡ inTable f ⌝ }
+// The op of a select.
+const SELECT: u8 = 8;
+
+// The fields of row r, which the slice holds: "op, chan, arg (2), next (2), other (2)".
+fn op_of(body: &[u8], r: Row) -> u8
+    requires { ⌜ rowSize * r .0 + rowSize ≤ length (now body) ⌝ }
+    ensures { λ n. ⌜ n ≡ fieldsOfRow (now (body .entry)) r .op ⌝ }
 {
-    let g = fields_of(s);
-    if f.op != g.op {
-        return false;
-    }
-    if f.chan != g.chan {
-        return false;
-    }
-    if f.arg != g.arg {
-        return false;
-    }
-    if f.next != g.next {
-        return false;
-    }
-    f.other == g.other
+    let at = ROW_SIZE * (r.0 as usize);
+    body[at]
 }
 
+fn chan_of(body: &[u8], r: Row) -> u8
+    requires { ⌜ rowSize * r .0 + rowSize ≤ length (now body) ⌝ }
+    ensures { λ n. ⌜ n ≡ fieldsOfRow (now (body .entry)) r .chan ⌝ }
+{
+    let at = ROW_SIZE * (r.0 as usize);
+    body[at + 1]
+}
+
+fn arg_of(body: &[u8], r: Row) -> u16
+    requires { ⌜ rowSize * r .0 + rowSize ≤ length (now body) ⌝ }
+    ensures { λ n. ⌜ n ≡ fieldsOfRow (now (body .entry)) r .arg ⌝ }
+{
+    let at = ROW_SIZE * (r.0 as usize);
+    two_of(body[at + 2], body[at + 3])
+}
+
+fn next_of(body: &[u8], r: Row) -> u16
+    requires { ⌜ rowSize * r .0 + rowSize ≤ length (now body) ⌝ }
+    ensures { λ n. ⌜ n ≡ fieldsOfRow (now (body .entry)) r .next ⌝ }
+{
+    let at = ROW_SIZE * (r.0 as usize);
+    two_of(body[at + 4], body[at + 5])
+}
+
+fn other_of(body: &[u8], r: Row) -> u16
+    requires { ⌜ rowSize * r .0 + rowSize ≤ length (now body) ⌝ }
+    ensures { λ n. ⌜ n ≡ fieldsOfRow (now (body .entry)) r .other ⌝ }
+{
+    let at = ROW_SIZE * (r.0 as usize);
+    two_of(body[at + 6], body[at + 7])
+}
+
+// "case rows (ops 9 to 11)"
 fn is_case_row(body: &[u8], r: Row) -> bool
+    requires { ⌜ rowSize * r .0 + rowSize ≤ length (now body) ⌝ }
     ensures { λ b. ⌜ b ≡ isCaseRow (now (body .entry)) r ⌝ }
 {
-    let f = fields_of_row(body, r.0 as u32);
-    if 9 <= f.op { f.op <= 11 } else { false }
+    let op = op_of(body, r);
+    if 9 <= op { op <= 11 } else { false }
 }
 
-// Whether a target is a row and no case row.
+// Whether a target is a row and no case row. Every slice is answered: a row that it does not hold has op 0 and is no case row.
 pub fn is_target(body: &[u8], rows: u16, r: Row) -> bool
+    ensures { λ b. ⌜ b ≡ isTarget (now (body .entry)) rows r ⌝ }
+{
+    if rows <= r.0 {
+        return false;
+    }
+    if ROW_SIZE * (r.0 as usize) + ROW_SIZE <= body.len() {
+        !is_case_row(body, r)
+    } else {
+        true
+    }
+}
+
+// The same, where the slice holds every row.
+pub(crate) fn target_good(body: &[u8], rows: u16, r: Row) -> bool
+    requires { ⌜ rowSize * rows ≤ length (now body) ⌝ }
     ensures { λ b. ⌜ b ≡ isTarget (now (body .entry)) rows r ⌝ }
 {
     if r.0 < rows {
@@ -54,50 +94,100 @@ pub fn is_target(body: &[u8], rows: u16, r: Row) -> bool
     }
 }
 
-fn are_targets(body: &[u8], rows: u16, r: Row, q: Row) -> bool
-    ensures { λ b. ⌜ b ≡ (isTarget (now (body .entry)) rows r && isTarget (now (body .entry)) rows q) ⌝ }
+// The two targets of row i, next and other.
+fn targets_good(body: &[u8], rows: u16, i: Row) -> bool
+    requires { ⌜ (i .0 < rows) × (rowSize * rows ≤ length (now body)) ⌝ }
+    ensures { λ b. ⌜ b ≡ targetsGood (now (body .entry)) rows (fieldsOfRow (now (body .entry)) i) ⌝ }
 {
-    if is_target(body, rows, r) {
-        is_target(body, rows, q)
+    if target_good(body, rows, Row(next_of(body, i))) {
+        target_good(body, rows, Row(other_of(body, i)))
     } else {
         false
     }
 }
 
-fn port_good(channels: u8, p: Port) -> bool
-    ensures { λ b. ⌜ b ≡ portGood channels p ⌝ }
+// Nil or a declared channel.
+fn port_good(channels: u8, chan: u8) -> bool
+    ensures { λ b. ⌜ b ≡ portGood channels (portOf chan) ⌝ }
 {
-    match p {
-        Port::Nil => true,
-        Port::On(c) => c.0 < channels,
+    if chan == NIL { true } else { chan < channels }
+}
+
+// Send, alone or in a case: chan; arg = V; next.
+fn send_good(body: &[u8], rows: u16, channels: u8, i: Row) -> bool
+    requires { ⌜ (i .0 < rows) × (rowSize * rows ≤ length (now body)) ⌝ }
+    ensures { λ b. ⌜ b ≡ sendGood (now (body .entry)) rows channels (fieldsOfRow (now (body .entry)) i) ⌝ }
+{
+    if other_of(body, i) != 0 {
+        return false;
+    }
+    if port_good(channels, chan_of(body, i)) {
+        target_good(body, rows, Row(next_of(body, i)))
+    } else {
+        false
     }
 }
 
-fn op_good(channels: u8, o: Op) -> bool
-    ensures { λ b. ⌜ b ≡ opGood channels o ⌝ }
+// Forward and recv, alone or in a case, and close: chan; next.
+fn forward_good(body: &[u8], rows: u16, channels: u8, i: Row) -> bool
+    requires { ⌜ (i .0 < rows) × (rowSize * rows ≤ length (now body)) ⌝ }
+    ensures { λ b. ⌜ b ≡ forwardGood (now (body .entry)) rows channels (fieldsOfRow (now (body .entry)) i) ⌝ }
 {
-    match o {
-        Op::Send(p, _) => port_good(channels, p),
-        Op::Forward(p) => port_good(channels, p),
-        Op::Recv(p) => port_good(channels, p),
+    if arg_of(body, i) != 0 {
+        return false;
+    }
+    send_good(body, rows, channels, i)
+}
+
+// Range: chan; next body, other after.
+fn range_good(body: &[u8], rows: u16, channels: u8, i: Row) -> bool
+    requires { ⌜ (i .0 < rows) × (rowSize * rows ≤ length (now body)) ⌝ }
+    ensures { λ b. ⌜ b ≡ rangeGood (now (body .entry)) rows channels (fieldsOfRow (now (body .entry)) i) ⌝ }
+{
+    if arg_of(body, i) != 0 {
+        return false;
+    }
+    if port_good(channels, chan_of(body, i)) {
+        targets_good(body, rows, i)
+    } else {
+        false
     }
 }
 
-fn otherwise_good(body: &[u8], rows: u16, e: Otherwise) -> bool
-    ensures { λ b. ⌜ b ≡ otherwiseGood (now (body .entry)) rows e ⌝ }
+// Repeat: chan = depth, 0 to 5; arg N, 0 to 255; next body, other after.
+fn repeat_good(body: &[u8], rows: u16, i: Row) -> bool
+    requires { ⌜ (i .0 < rows) × (rowSize * rows ≤ length (now body)) ⌝ }
+    ensures { λ b. ⌜ b ≡ repeatGood (now (body .entry)) rows (fieldsOfRow (now (body .entry)) i) ⌝ }
 {
-    match e {
-        Otherwise::Wait => true,
-        Otherwise::Go(n) => is_target(body, rows, n),
+    if DEPTH <= chan_of(body, i) {
+        return false;
     }
+    if LAPS < arg_of(body, i) {
+        return false;
+    }
+    targets_good(body, rows, i)
+}
+
+// Ifok: next first body, other second body.
+fn ifok_good(body: &[u8], rows: u16, i: Row) -> bool
+    requires { ⌜ (i .0 < rows) × (rowSize * rows ≤ length (now body)) ⌝ }
+    ensures { λ b. ⌜ b ≡ ifokGood (now (body .entry)) rows (fieldsOfRow (now (body .entry)) i) ⌝ }
+{
+    if chan_of(body, i) != 0 {
+        return false;
+    }
+    if arg_of(body, i) != 0 {
+        return false;
+    }
+    targets_good(body, rows, i)
 }
 
 // Whether the k rows behind row i are case rows.
-fn cases_follow(body: &[u8], rows: u16, k: u8, i: u16) -> bool
-    requires { ⌜ i < rows ⌝ }
-    ensures { λ b. ⌜ b ≡ casesFollow (now (body .entry)) rows k (suc i) ⌝ }
+fn cases_follow(body: &[u8], rows: u16, i: Row, k: u8) -> bool
+    requires { ⌜ (i .0 < rows) × (rowSize * rows ≤ length (now body)) ⌝ }
+    ensures { λ b. ⌜ b ≡ casesFollow (now (body .entry)) rows k (suc (i .0)) ⌝ }
 {
-    let mut at = i + 1;
+    let mut at = i.0 + 1;
     let mut left = k;
     while 0 < left {
         if rows <= at {
@@ -113,120 +203,101 @@ fn cases_follow(body: &[u8], rows: u16, k: u8, i: u16) -> bool
     true
 }
 
-fn repeat_good(body: &[u8], rows: u16, depth: u8, laps: u16, r: Row, q: Row) -> bool
-    ensures { λ b. ⌜ b ≡ (ltb depth depthLimit && (leb laps lapLimit && (isTarget (now (body .entry)) rows r && isTarget (now (body .entry)) rows q))) ⌝ }
+// A select's default: arg 1, next its body; without one both are 0.
+fn default_good(body: &[u8], rows: u16, i: Row) -> bool
+    requires { ⌜ (i .0 < rows) × (rowSize * rows ≤ length (now body)) ⌝ }
+    ensures { λ b. ⌜ b ≡ defaultGood (now (body .entry)) rows (fieldsOfRow (now (body .entry)) i) ⌝ }
 {
-    if 6 <= depth {
+    let arg = arg_of(body, i);
+    if arg == 1 {
+        return target_good(body, rows, Row(next_of(body, i)));
+    }
+    if arg == 0 {
+        next_of(body, i) == 0
+    } else {
+        false
+    }
+}
+
+// Select: chan = number of cases, 0 to 8, which follow at once; arg and next its default.
+fn select_good(body: &[u8], rows: u16, i: Row) -> bool
+    requires { ⌜ (i .0 < rows) × (rowSize * rows ≤ length (now body)) ⌝ }
+    ensures { λ b. ⌜ b ≡ selectGood (now (body .entry)) rows (i .0) (fieldsOfRow (now (body .entry)) i) ⌝ }
+{
+    if other_of(body, i) != 0 {
         return false;
     }
-    if laps <= 255 {
-        are_targets(body, rows, r, q)
-    } else {
-        false
-    }
-}
-
-fn select_good(body: &[u8], rows: u16, i: u16, k: u8, e: Otherwise) -> bool
-    requires { ⌜ i < rows ⌝ }
-    ensures { λ b. ⌜ b ≡ (leb k caseLimit && (otherwiseGood (now (body .entry)) rows e && casesFollow (now (body .entry)) rows k (suc i))) ⌝ }
-{
-    if 8 < k {
+    let k = chan_of(body, i);
+    if CASES < k {
         return false;
     }
-    if otherwise_good(body, rows, e) {
-        cases_follow(body, rows, k, i)
+    if default_good(body, rows, i) {
+        cases_follow(body, rows, i, k)
     } else {
         false
     }
 }
 
-fn op_and_target(body: &[u8], rows: u16, channels: u8, o: Op, n: Row) -> bool
-    ensures { λ b. ⌜ b ≡ (opGood channels o && isTarget (now (body .entry)) rows n) ⌝ }
+// Stop: no field.
+fn stop_good(body: &[u8], i: Row) -> bool
+    requires { ⌜ rowSize * i .0 + rowSize ≤ length (now body) ⌝ }
+    ensures { λ b. ⌜ b ≡ stopGood (fieldsOfRow (now (body .entry)) i) ⌝ }
 {
-    if op_good(channels, o) {
-        is_target(body, rows, n)
-    } else {
-        false
+    if chan_of(body, i) != 0 {
+        return false;
     }
+    if arg_of(body, i) != 0 {
+        return false;
+    }
+    if next_of(body, i) != 0 {
+        return false;
+    }
+    other_of(body, i) == 0
 }
 
-fn case_good(body: &[u8], rows: u16, channels: u8, owed: u8, o: Op, n: Row) -> bool
-    ensures { λ b. ⌜ b ≡ (ltb 0 owed && (opGood channels o && isTarget (now (body .entry)) rows n)) ⌝ }
+// Whether row i is good, where so many of a select's case rows were still to come ahead of it: the table, line by line.
+pub(crate) fn row_good(body: &[u8], rows: u16, channels: u8, i: Row, owed: u8) -> bool
+    requires { ⌜ (i .0 < rows) × (rowSize * rows ≤ length (now body)) ⌝ }
+    ensures { λ b. ⌜ b ≡ rowGood (now (body .entry)) rows channels (i .0) owed (fieldsOfRow (now (body .entry)) i) ⌝ }
 {
-    if 0 < owed {
-        op_and_target(body, rows, channels, o, n)
-    } else {
-        false
-    }
-}
-
-// The ranges, targets and case rows of the statement at row i.
-fn statement_good(body: &[u8], rows: u16, channels: u8, i: u16, owed: u8, s: Statement) -> bool
-    requires { ⌜ i < rows ⌝ }
-    ensures { λ b. ⌜ b ≡ statementGood (now (body .entry)) rows channels i owed s ⌝ }
-{
-    match s {
-        Statement::Do(o, n) => op_and_target(body, rows, channels, o, n),
-        Statement::Close(p, n) => {
-            if port_good(channels, p) {
-                is_target(body, rows, n)
+    let op = op_of(body, i);
+    match op {
+        1 => send_good(body, rows, channels, i),
+        2 | 3 | 4 => forward_good(body, rows, channels, i),
+        5 => range_good(body, rows, channels, i),
+        6 => repeat_good(body, rows, i),
+        7 => ifok_good(body, rows, i),
+        8 => select_good(body, rows, i),
+        9 => {
+            if 0 < owed {
+                send_good(body, rows, channels, i)
             } else {
                 false
             }
         }
-        Statement::Range(p, n, a) => {
-            if port_good(channels, p) {
-                are_targets(body, rows, n, a)
+        10 | 11 => {
+            if 0 < owed {
+                forward_good(body, rows, channels, i)
             } else {
                 false
             }
         }
-        Statement::Repeat(d, k, n, a) => repeat_good(body, rows, d, k, n, a),
-        Statement::Ifok(n, a) => are_targets(body, rows, n, a),
-        Statement::Select(k, e) => select_good(body, rows, i, k, e),
-        Statement::Case(o, n) => case_good(body, rows, channels, owed, o, n),
-        Statement::Stop => true,
+        12 => stop_good(body, i),
+        _ => false,
     }
 }
 
-// Whether row i, with these fields, which read as s, is good. The statement is made once for a row, and asked three times.
-pub fn row_good(
-    body: &[u8],
-    rows: u16,
-    channels: u8,
-    i: u16,
-    owed: u8,
-    f: Fields,
-    s: Statement,
-) -> bool
-    requires { ⌜ (i < rows) × (s ≡ statementOf f) ⌝ }
-    ensures { λ b. ⌜ b ≡ rowGood (now (body .entry)) rows channels i owed f ⌝ }
+// How many of a select's case rows are still to come behind row i, where so many were ahead of it.
+pub(crate) fn owed_behind(body: &[u8], i: Row, owed: u8) -> u8
+    requires { ⌜ rowSize * i .0 + rowSize ≤ length (now body) ⌝ }
+    ensures { λ n. ⌜ n ≡ owedAfter owed (statementOf (fieldsOfRow (now (body .entry)) i)) ⌝ }
 {
-    if in_table(f, s) {
-        statement_good(body, rows, channels, i, owed, s)
+    if op_of(body, i) == SELECT {
+        return chan_of(body, i);
+    }
+    if is_case_row(body, i) {
+        if 0 < owed { owed - 1 } else { 0 }
     } else {
-        false
+        0
     }
-}
-
-// The case rows still to come behind a statement.
-pub fn owed_after(owed: u8, s: Statement) -> u8
-    ensures { λ n. ⌜ n ≡ owedAfter owed s ⌝ }
-{
-    match s {
-        Statement::Do(_, _) => 0,
-        Statement::Close(_, _) => 0,
-        Statement::Range(_, _, _) => 0,
-        Statement::Repeat(_, _, _, _) => 0,
-        Statement::Ifok(_, _) => 0,
-        Statement::Select(k, _) => k,
-        Statement::Case(_, _) => less_one(owed),
-        Statement::Stop => 0,
-    }
-}
-
-fn less_one(n: u8) -> u8
-    ensures { λ r. ⌜ r ≡ n - 1 ⌝ }
-{
-    if 0 < n { n - 1 } else { 0 }
 }

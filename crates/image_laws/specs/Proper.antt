@@ -6,7 +6,7 @@ use Rattle.image_laws.specs.Kinds.{Op, Send, Forward, Recv}
 use Rattle.meaning.specs.Numbers.{channelLimit, capacityLimit, taskLimit, caseLimit, valueLimit, lapLimit, depthLimit, rowLimit}
 use Rattle.meaning.specs.Text.{Stmt, operate, close, stop, range, repeat, ifok, select, Body, empty, _▸_, Cases, nomore, default, case, Job}
 use Rattle.meaning.specs.Layout.{caseCount, rowsT}
-use Rattle.image_check.specs.laws.Sound.{PortSound}
+use Rattle.image_check.specs.Sound.{PortSound}
 use Rattle.meaning_laws.specs.Lists.{All}
 
 -- So many channels are declared.

@@ -5,6 +5,7 @@ ghost use Prim.Native.Nat.{_<_};
 ghost use Rattle.meaning.specs.Bytes.{byteAt, twoOf, twoAt, trailerOf, bodyOf};
 ghost use Rattle.image_rows.specs.Rows.{countsIn};
 use crate::Counts;
+use meaning::sizes::TRAILER_SIZE;
 
 pub fn byte_at(s: &[u8], i: usize) -> u8
     ensures { λ r. ⌜ r ≡ byteAt (now (s .entry)) i ⌝ }
@@ -37,10 +38,10 @@ pub fn trailer_of(image: &[u8]) -> &[u8]
     ensures { λ r. ⌜ now r ≡ trailerOf (now (image .entry)) ⌝ }
 {
     let n = image.len();
-    if n < 8 {
+    if n < TRAILER_SIZE {
         return image;
     }
-    let at = n - 8;
+    let at = n - TRAILER_SIZE;
     &image[at..]
 }
 
@@ -62,9 +63,9 @@ pub fn body_of(image: &[u8]) -> &[u8]
 {
     let back = two_at(trailer_of(image), 4) as usize;
     let n = image.len();
-    if n < 8 + back {
+    if n < TRAILER_SIZE + back {
         return image;
     }
-    let at = n - 8 - back;
+    let at = n - TRAILER_SIZE - back;
     &image[at..]
 }

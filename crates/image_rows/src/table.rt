@@ -17,12 +17,15 @@ use meaning::Otherwise;
 use meaning::Port;
 use meaning::Row;
 use meaning::Statement;
+use meaning::Task;
 use meaning::port_number;
+use meaning::sizes::NIL;
+use meaning::sizes::ROW_SIZE;
 
 fn port_of(n: u8) -> Port
     ensures { λ r. ⌜ r ≡ portOf n ⌝ }
 {
-    if n == 255 {
+    if n == NIL {
         Port::Nil
     } else {
         Port::On(Chan(n))
@@ -49,11 +52,11 @@ fn fields_at(body: &[u8], i: usize) -> Fields
 }
 
 // The fields of the row at number n of an image that begins with row 0; all 0 where the slice ends ahead of the row's end.
-pub fn fields_of_row(body: &[u8], n: u32) -> Fields
+fn fields_no(body: &[u8], n: u32) -> Fields
     ensures { λ f. ⌜ f ≡ fieldsOfRow (now (body .entry)) (rowNo n) ⌝ }
 {
-    let at = 8 * (n as usize);
-    if at + 8 <= body.len() {
+    let at = ROW_SIZE * (n as usize);
+    if at + ROW_SIZE <= body.len() {
         return fields_at(body, at);
     }
     Fields {
@@ -63,6 +66,13 @@ pub fn fields_of_row(body: &[u8], n: u32) -> Fields
         next: 0,
         other: 0,
     }
+}
+
+// The fields of a row.
+pub fn fields_of_row(body: &[u8], r: Row) -> Fields
+    ensures { λ f. ⌜ f ≡ fieldsOfRow (now (body .entry)) r ⌝ }
+{
+    fields_no(body, r.0 as u32)
 }
 
 // The statement that five fields read as.
@@ -100,25 +110,35 @@ fn otherwise_of(arg: u16, next: Row) -> Otherwise
     }
 }
 
-// The statement at row number n of an image that begins with row 0.
-pub fn statement_at(body: &[u8], n: u32) -> Statement
+// The statement at a row.
+pub fn statement_at(body: &[u8], r: Row) -> Statement
+    ensures { λ s. ⌜ s ≡ rowsIn (now (body .entry)) r ⌝ }
+{
+    statement_of(fields_of_row(body, r))
+}
+
+// The statement of a case row, whose number is counted on from its select's: it may be more than the number of a row can say.
+pub fn case_at(body: &[u8], n: u32) -> Statement
     ensures { λ s. ⌜ s ≡ rowsIn (now (body .entry)) (rowNo n) ⌝ }
 {
-    statement_of(fields_of_row(body, n))
+    statement_of(fields_no(body, n))
 }
 
 // The capacity of channel c, behind so many rows.
-pub fn capacity_in(body: &[u8], rows: u16, c: u16) -> u8
+pub fn capacity_in(body: &[u8], rows: u16, c: Chan) -> u8
     ensures { λ r. ⌜ r ≡ capacityIn (now (body .entry)) rows c ⌝ }
 {
-    byte_at(body, 8 * (rows as usize) + (c as usize))
+    byte_at(body, ROW_SIZE * (rows as usize) + (c.0 as usize))
 }
 
 // The first row of task t, behind so many rows and channels.
-pub fn first_row_in(body: &[u8], rows: u16, channels: u8, t: u16) -> Row
+pub fn first_row_in(body: &[u8], rows: u16, channels: u8, t: Task) -> Row
     ensures { λ r. ⌜ r ≡ firstRowIn (now (body .entry)) rows channels t ⌝ }
 {
-    Row(two_at(body, 8 * (rows as u32) + (channels as u32) + 2 * (t as u32)))
+    Row(two_at(
+        body,
+        8 * (rows as u32) + (channels as u32) + 2 * (t.0 as u32),
+    ))
 }
 
 // The fields that the table writes for a statement, kind by kind.
@@ -263,8 +283,8 @@ fn put_fields(out: &mut [u8], i: usize, f: Fields)
 pub fn put_row(out: &mut [u8], r: Row, s: Statement)
     ensures { λ _. ⌜ now (out .exit) ≡ rowPut (now (out .entry)) r s ⌝ }
 {
-    let at = 8 * (r.0 as usize);
-    if at + 8 <= out.len() {
+    let at = ROW_SIZE * (r.0 as usize);
+    if at + ROW_SIZE <= out.len() {
         put_fields(out, at, fields_of(s));
     }
 }

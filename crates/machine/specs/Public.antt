@@ -7,7 +7,7 @@ use lib.ListN.{replicate}
 use Rattle.machine.specs.Kinds.{Task, Row, Able, Counts, Checked, Good, TaskState, ChanState, State, Turned, Started}
 use Rattle.meaning.specs.Numbers.{depthLimit, noFault, unfit}
 use Rattle.meaning.specs.Machine as m
-use Rattle.meaning.specs.Image.{rowNo, imageLook}
+use Rattle.meaning.specs.Image.{rowNo, imageLook, taskNo}
 use Rattle.meaning.specs.Bytes.{bodyOf, firstRowIn, tabulate, rowsOf}
 use Rattle.image_rows.specs.Rows.{countsOf}
 use Rattle.image_check.specs.declared.Checked.the-variants.{Refused}
@@ -31,7 +31,7 @@ openChans = replicate 16 (record { closed = false; len = 0 })
 
 -- The records of the tasks at their first rows, the cells behind them unused.
 unfoldable pub freshTasks : List ℕ → Counts → List TaskState
-freshTasks rs k = over (tabulate (λ t. freshTask (firstRowIn rs (k .rows) (k .channels) t)) (k .tasks) 0) unusedTasks
+freshTasks rs k = over (tabulate (λ t. freshTask (firstRowIn rs (k .rows) (k .channels) (taskNo t))) (k .tasks) 0) unusedTasks
 
 abbrev pub stateOf : List TaskState → ℕ → ℕ → State
 stateOf xs tasks channels = record { tasks = xs; chans = openChans; order = noTasks; waiting = 0; taskcount = tasks; chancount = channels; fault = noFault; named = record { 0 = 0 }; stamp = 0 }

@@ -60,7 +60,7 @@ fn fresh_tasks(body: &[u8], k: Counts) -> [TaskState; 16]
     let mut t: u8 = 0;
     while t < n {
         let at = t as usize;
-        let x = fresh_task(first_row_in(body, k.rows, k.channels, t as u16));
+        let x = fresh_task(first_row_in(body, k.rows, k.channels, Task(t)));
         tasks[at] = x;
         t = t + 1;
     }

@@ -41,7 +41,7 @@ module _ (s : State) (me : Task) (x : TaskState) where
 
 module _ (rs : List ℕ) (rows : ℕ) (s : State) where
   abbrev pub hasRoom : Chan → Bool
-  hasRoom c = ltb (chanIn (s .chans) c .len) (capacityIn rs rows (c .0))
+  hasRoom c = ltb (chanIn (s .chans) c .len) (capacityIn rs rows c)
 
   unfoldable pub sendsOn : Task → TaskState → Chan → ℕ → Row → Option Plan
   sendsOn me x c v next = sendOn s me x c v next (chanIn (s .chans) c) (chanIn (s .chans) c .closed) (firstWaiter rs s Receiving c) (hasRoom c)

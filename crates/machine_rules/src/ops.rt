@@ -89,7 +89,7 @@ fn send_on(
     if k.closed {
         fail(s, me, x, 1, Port::On(c))
     } else {
-        let capacity = capacity_in(body, rows, c.0 as u16);
+        let capacity = capacity_in(body, rows, c);
         let q = first_waiter(body, s, Side::Receiving, c);
         let f = q.found;
         let y = q.stands;

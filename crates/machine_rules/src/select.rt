@@ -9,7 +9,7 @@ ghost use Rattle.machine_rules.specs.Kinds.{Receiving, Sending};
 ghost use Rattle.machine_waiters.specs.Waiters.{firstWaiter};
 ghost use Rattle.machine_rules.specs.Rules.{hasRoom, canSend, canReceive, sendReady, receiveReady, opReady, offerReady, rowReady, readyRows, noCase, chosenCase};
 use image_rows::table::capacity_in;
-use image_rows::table::statement_at;
+use image_rows::table::case_at;
 use machine_plans::branch;
 use machine_plans::wait;
 use machine_state::Plan;
@@ -54,7 +54,7 @@ fn can_send_on(body: &[u8], rows: u16, s: State, c: Chan) -> bool
     if k.closed {
         true
     } else {
-        let capacity = capacity_in(body, rows, c.0 as u16);
+        let capacity = capacity_in(body, rows, c);
         let q = first_waiter(body, s, Side::Receiving, c);
         let f = q.found;
         can_give(f, k.len < capacity)
@@ -117,7 +117,7 @@ fn offer_ready(body: &[u8], rows: u16, s: State, f: Offer) -> bool
 fn row_ready(body: &[u8], rows: u16, s: State, n: u32) -> bool
     ensures { λ r. ⌜ r ≡ rowReady (now (body .entry)) rows s n ⌝ }
 {
-    let f = case_offer(statement_at(body, n));
+    let f = case_offer(case_at(body, n));
     offer_ready(body, rows, s, f)
 }
 
@@ -176,5 +176,5 @@ pub fn chosen_case(body: &[u8], rows: u16, s: State, k: u8, row: Row, choice: u8
         return Offer::Nothing;
     }
     let chosen = nth_ready(body, rows, s, k, row, choice % n);
-    case_offer(statement_at(body, chosen))
+    case_offer(case_at(body, chosen))
 }

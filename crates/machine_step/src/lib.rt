@@ -184,7 +184,7 @@ pub fn step(
         return refuse(s, number);
     }
     let row = x.row;
-    let statement = statement_at(body, row.0 as u32);
+    let statement = statement_at(body, row);
     let closing = closing_of(statement);
     match closing {
         Closing::Of(p, n) => {

@@ -4,6 +4,7 @@ ghost use mathlib.Core.Path.{_≡_};
 ghost use Prim.Native.Nat.{_+_};
 ghost use Rattle.meaning.specs.Machine.{isOn, receivesOn, sendsOn};
 ghost use Rattle.machine_waiters.specs.Waiters.{serves, caseOffer, serving, firstCase, matchedBy, matchedAt, firstWaiter, blankPartner, partnerOf, isOffer, countWaiters};
+use image_rows::table::case_at;
 use image_rows::table::statement_at;
 use machine_state::State;
 use machine_state::TaskState;
@@ -116,7 +117,7 @@ fn first_case(body: &[u8], side: Side, c: Chan, k: u8, row: Row) -> Offer
     let first = row.0 as u32 + 1;
     let mut i: u8 = 0;
     while i < k {
-        let f = serving_offer(side, c, case_offer(statement_at(body, first + i as u32)));
+        let f = serving_offer(side, c, case_offer(case_at(body, first + i as u32)));
         i = i + 1;
         match f {
             Offer::By(o, hit, miss) => {
@@ -147,7 +148,7 @@ fn matched_by(body: &[u8], side: Side, c: Chan, row: Row, s: Statement) -> Offer
 pub fn matched_at(body: &[u8], side: Side, c: Chan, row: Row) -> Offer
     ensures { λ r. ⌜ r ≡ matchedAt (now (body .entry)) side c row ⌝ }
 {
-    matched_by(body, side, c, row, statement_at(body, row.0 as u32))
+    matched_by(body, side, c, row, statement_at(body, row))
 }
 
 fn nobody() -> Partner

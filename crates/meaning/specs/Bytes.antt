@@ -4,11 +4,11 @@ use mathlib.Core.List.{List, [], _∷_, _++_}
 use Prim.Native.Nat.{ℕ, zero, suc, _+_, _-_, _*_, _/_, _%_}
 use lib.ListN.{length, getD, drop}
 use lib.Dec.{eqb, leb}
-use Rattle.meaning.specs.Kinds.{Row, Fields, Port, Nil, On, Send, Forward, Recv, Otherwise, Wait, Go, Statement, Do, Close, Range, Repeat, Ifok, Select, Case, Stop}
+use Rattle.meaning.specs.Kinds.{Task, Chan, Row, Fields, Port, Nil, On, Send, Forward, Recv, Otherwise, Wait, Go, Statement, Do, Close, Range, Repeat, Ifok, Select, Case, Stop}
 use Rattle.meaning.specs.Events.{portNumber}
 use Rattle.meaning.specs.Machine.{Machine}
 use Rattle.meaning.specs.Text.{Job}
-use Rattle.meaning.specs.Image.{rowNo, Rows, Spot, imageStart}
+use Rattle.meaning.specs.Image.{rowNo, Rows, Spot, imageStart, chanNo, taskNo}
 use Rattle.meaning.specs.Layout.{rowsT, firstRows}
 
 -- ROWS
@@ -154,11 +154,11 @@ unfoldable pub rowsIn : List ℕ → Rows
 rowsIn rs r = statementOf (fieldsOfRow rs r)
 
 -- The capacity of channel c behind so many rows, and the first row of task t behind so many rows and channels.
-unfoldable pub capacityIn : List ℕ → ℕ → ℕ → ℕ
-capacityIn rs rows c = byteAt rs (rowSize * rows + c)
+unfoldable pub capacityIn : List ℕ → ℕ → Chan → ℕ
+capacityIn rs rows c = byteAt rs (rowSize * rows + c .0)
 
-unfoldable pub firstRowIn : List ℕ → ℕ → ℕ → ℕ → Row
-firstRowIn rs rows channels t = rowNo (twoAt rs (rowSize * rows + channels + 2 * t))
+unfoldable pub firstRowIn : List ℕ → ℕ → ℕ → Task → Row
+firstRowIn rs rows channels t = rowNo (twoAt rs (rowSize * rows + channels + 2 * t .0))
 
 -- f at n numbers from i on.
 unfoldable pub tabulate : {A : Type 0} → (ℕ → A) → ℕ → ℕ → List A
@@ -170,10 +170,10 @@ unfoldable pub rowsOf : List ℕ → Rows
 rowsOf bs = rowsIn (bodyOf bs)
 
 unfoldable pub capacitiesOf : List ℕ → List ℕ
-capacitiesOf bs = tabulate (capacityIn (bodyOf bs) (rowCount bs)) (channelCount bs) 0
+capacitiesOf bs = tabulate (λ c. capacityIn (bodyOf bs) (rowCount bs) (chanNo c)) (channelCount bs) 0
 
 unfoldable pub firstRowsOf : List ℕ → List Row
-firstRowsOf bs = tabulate (firstRowIn (bodyOf bs) (rowCount bs) (channelCount bs)) (taskCount bs) 0
+firstRowsOf bs = tabulate (λ t. firstRowIn (bodyOf bs) (rowCount bs) (channelCount bs) (taskNo t)) (taskCount bs) 0
 
 unfoldable pub startOf : List ℕ → Machine Spot
 startOf bs = imageStart (capacitiesOf bs) (firstRowsOf bs)

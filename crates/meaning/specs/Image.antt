@@ -5,7 +5,7 @@ use mathlib.Core.List.{List, [], _∷_, _++_, map}
 use Prim.Native.Nat.{ℕ, zero, suc}
 use lib.ListN.{getD, set, replicate}
 use lib.Dec.{ltb}
-use Rattle.meaning.specs.Kinds.{Row, Recv, Otherwise, Wait, Go, Statement, Do, Close, Range, Repeat, Ifok, Select, Case, Stop}
+use Rattle.meaning.specs.Kinds.{Task, Chan, Row, Recv, Otherwise, Wait, Go, Statement, Do, Close, Range, Repeat, Ifok, Select, Case, Stop}
 use Rattle.meaning.specs.Numbers.{depthLimit}
 use Rattle.meaning.specs.Machine as m
 
@@ -17,8 +17,15 @@ pub record Spot : Type 0 where
 abbrev pub spot : List ℕ → Row → Spot
 spot laps r = record { row = r; laps = laps }
 
+-- Row, channel and task number n: three kinds, so that none is taken for another.
 abbrev pub rowNo : ℕ → Row
 rowNo n = record { 0 = n }
+
+abbrev pub chanNo : ℕ → Chan
+chanNo n = record { 0 = n }
+
+abbrev pub taskNo : ℕ → Task
+taskNo n = record { 0 = n }
 
 -- The rows of an image, each asked for by its number: an image is read where it stands and never copied.
 abbrev pub Rows : Type 0

@@ -5,6 +5,10 @@
 ghost use mathlib.Core.Path.{_≡_};
 ghost use Rattle.meaning.specs.Events.{portNumber};
 
+pub mod sizes;
+
+use sizes::NIL;
+
 // Document 01, 'Step image': a task number and a channel number both run from 0 to 15 and are kept apart by kind; so is
 // the number of a row.
 pub struct Task(pub u8);
@@ -90,7 +94,7 @@ pub fn port_number(p: Port) -> u8
     ensures { λ r. ⌜ r ≡ portNumber p ⌝ }
 {
     match p {
-        Port::Nil => 255,
+        Port::Nil => NIL,
         Port::On(c) => c.0,
     }
 }

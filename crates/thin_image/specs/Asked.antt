@@ -35,10 +35,10 @@ unfoldable pub rowAsked : List ℕ → Held → Row → RowAnswer
 rowAsked bs h n = cond (ltb (n .0) (h .counts .rows)) (rowFound (rowsOf bs n)) noRow
 
 unfoldable pub capacityAsked : List ℕ → Held → Chan → CapacityAnswer
-capacityAsked bs h c = cond (ltb (c .0) (h .counts .channels)) (capacityFound (capacityIn (bodyOf bs) (h .counts .rows) (c .0))) noCapacity
+capacityAsked bs h c = cond (ltb (c .0) (h .counts .channels)) (capacityFound (capacityIn (bodyOf bs) (h .counts .rows) c)) noCapacity
 
 unfoldable pub firstRowAsked : List ℕ → Held → Task → FirstRowAnswer
-firstRowAsked bs h t = cond (ltb (t .0) (h .counts .tasks)) (firstRowFound (firstRowIn (bodyOf bs) (h .counts .rows) (h .counts .channels) (t .0))) noFirstRow
+firstRowAsked bs h t = cond (ltb (t .0) (h .counts .tasks)) (firstRowFound (firstRowIn (bodyOf bs) (h .counts .rows) (h .counts .channels) t)) noFirstRow
 
 -- OPENED AND ASKED
 

@@ -48,7 +48,7 @@ pub fn row_asked(image: &[u8], h: Held, n: Row) -> RowAnswer
 {
     let k = h.counts;
     if n.0 < k.rows {
-        let found = statement_at(body_of(image), n.0 as u32);
+        let found = statement_at(body_of(image), n);
         return RowAnswer::Found(found);
     }
     RowAnswer::No
@@ -59,7 +59,7 @@ pub fn capacity_asked(image: &[u8], h: Held, c: Chan) -> CapacityAnswer
 {
     let k = h.counts;
     if c.0 < k.channels {
-        let found = capacity_in(body_of(image), k.rows, c.0 as u16);
+        let found = capacity_in(body_of(image), k.rows, c);
         return CapacityAnswer::Found(found);
     }
     CapacityAnswer::No
@@ -70,7 +70,7 @@ pub fn first_row_asked(image: &[u8], h: Held, t: Task) -> FirstRowAnswer
 {
     let k = h.counts;
     if t.0 < k.tasks {
-        let found = first_row_in(body_of(image), k.rows, k.channels, t.0 as u16);
+        let found = first_row_in(body_of(image), k.rows, k.channels, t);
         return FirstRowAnswer::Found(found);
     }
     FirstRowAnswer::No

@@ -1,5 +1,4 @@
--- What an image that passes the check can be relied on for, said in facts instead of tests: the layers above cite this and
--- never look into the check.
+-- An image that passes the check is sound: from the tests to the facts.
 use mathlib.Core.Path.{_≡_, refl, sym, ap, _∙_}
 use mathlib.Core.Bool.{Bool, true, false, cond, not, _&&_}
 use mathlib.Core.List.{List}
@@ -11,70 +10,13 @@ use lib.Dec.{eqb, leb, ltb}
 use lib.ListN.{length, length-drop}
 use Rattle.image_check.specs.Kinds.{Row, Port, Nil, On, Op, Send, Forward, Recv, Otherwise, Wait, Go, Statement, Do, Close, Range, Repeat, Ifok, Select, Case, Stop, Fields, Counts, Checked, Good, Refused, First, Nowhere, At}
 use Rattle.meaning.specs.Numbers.{rowLimit, channelLimit, taskLimit, capacityLimit, caseLimit, lapLimit, depthLimit, imageTooShort, badMark, badVersion, badCounts, badDistance, badRow, badCapacity, badFirstRow}
-use Rattle.meaning.specs.Image.{rowNo}
-use Rattle.meaning.specs.Bytes.{statementOf, trailerSize, imageMark, imageVersion, markOf, versionOf, spanOf, rowCount, channelCount, taskCount, distance, bodyOf, fieldsOfRow, rowsIn, capacityIn, firstRowIn}
+use Rattle.meaning.specs.Image.{rowNo, chanNo, taskNo}
+use Rattle.meaning.specs.Bytes.{fields, statementOf, trailerSize, imageMark, imageVersion, markOf, versionOf, spanOf, rowCount, channelCount, taskCount, distance, bodyOf, fieldsOfRow, rowsIn, capacityIn, firstRowIn}
 use Rattle.meaning.specs.laws.Tests.{both}
+use Rattle.meaning.specs.laws.Ops.{beyond, by-op}
 use Rattle.image_rows.specs.Rows.{countsIn, countsOf}
 use Rattle.image_check.specs.Check.{isCaseOp, inTable, owedAt, isCaseRow, isTarget, portGood, opGood, otherwiseGood, casesFollow, statementGood, rowGood, rowBad, capacityBad, firstRowBad, firstOf, refusedAt, bodyChecked, countsGood, checked}
-
--- THE FACTS
-
-abbrev pub isCase : Statement → Bool
-isCase (Do o n) = false
-isCase (Close p n) = false
-isCase (Range p n a) = false
-isCase (Repeat d k n a) = false
-isCase (Ifok n a) = false
-isCase (Select k e) = false
-isCase (Case o n) = true
-isCase Stop = false
-
-abbrev pub PortSound : ℕ → Port → Type 0
-PortSound channels Nil = Unit {0}
-PortSound channels (On c) = c .0 < channels
-
-abbrev pub OpSound : ℕ → Op → Type 0
-OpSound channels (Send p v) = PortSound channels p
-OpSound channels (Forward p) = PortSound channels p
-OpSound channels (Recv p) = PortSound channels p
-
-module _ (rs : List ℕ) (rows : ℕ) where
-  -- A row, and no case row.
-  pub record Target (r : Row) : Type 0 where
-    pub below : r .0 < rows
-    pub plain : isCase (rowsIn rs r) ≡ false
-
-  abbrev pub OtherwiseSound : Otherwise → Type 0
-  OtherwiseSound Wait = Unit {0}
-  OtherwiseSound (Go n) = Target n
-
-  -- The k rows from row i on are case rows.
-  abbrev pub Followed : ℕ → ℕ → Type 0
-  Followed zero i = Unit {0}
-  Followed (suc k) i = (i < rows) × (isCase (rowsIn rs (rowNo i)) ≡ true) × Followed k (suc i)
-
-  abbrev pub StatementSound : ℕ → ℕ → Statement → Type 0
-  StatementSound channels i (Do o n) = OpSound channels o × Target n
-  StatementSound channels i (Close p n) = PortSound channels p × Target n
-  StatementSound channels i (Range p n a) = PortSound channels p × Target n × Target a
-  StatementSound channels i (Repeat d k n a) = (d < depthLimit) × (k ≤ lapLimit) × Target n × Target a
-  StatementSound channels i (Ifok n a) = Target n × Target a
-  StatementSound channels i (Select k e) = (k ≤ caseLimit) × OtherwiseSound e × Followed k (suc i)
-  StatementSound channels i (Case o n) = OpSound channels o × Target n
-  StatementSound channels i Stop = Unit {0}
-
-pub record Sound (bs : List ℕ) : Type 0 where
-  pub some-rows : 1 ≤ rowCount bs
-  pub most-rows : rowCount bs ≤ rowLimit
-  pub most-channels : channelCount bs ≤ channelLimit
-  pub some-tasks : 1 ≤ taskCount bs
-  pub most-tasks : taskCount bs ≤ taskLimit
-  pub whole : length (bodyOf bs) ≡ spanOf (rowCount bs) (channelCount bs) (taskCount bs) + trailerSize
-  pub statements : (i : ℕ) → i < rowCount bs → StatementSound (bodyOf bs) (rowCount bs) (channelCount bs) i (rowsIn (bodyOf bs) (rowNo i))
-  pub capacities : (c : ℕ) → c < channelCount bs → capacityIn (bodyOf bs) (rowCount bs) c ≤ capacityLimit
-  pub firsts : (t : ℕ) → t < taskCount bs → Target (bodyOf bs) (rowCount bs) (firstRowIn (bodyOf bs) (rowCount bs) (channelCount bs) t)
-
--- FROM THE TESTS TO THE FACTS
+use Rattle.image_check.specs.Sound.{isCase, PortSound, OpSound, Target, OtherwiseSound, Followed, StatementSound, Sound}
 
 and-false-at : (a b : Bool) → b ≡ false → (a && b) ≡ false
 and-false-at true b e = e
@@ -84,27 +26,16 @@ past : (n : ℕ) → 11 < n → isCaseOp n ≡ false
 past n h = and-false-at (leb 9 n) (leb n 11) (lt-leb n 11 h)
 
 -- The ops of case rows are those that read as cases.
-case-is : (f : Fields) (n : ℕ) → isCaseOp n ≡ isCase (statementOf (record { op = n; chan = f .chan; arg = f .arg; next = f .next; other = f .other }))
+case-is : (f : Fields) → isCaseOp (f .op) ≡ isCase (statementOf f)
 unfolding statementOf
-case-is f zero = refl
-case-is f (suc zero) = refl
-case-is f (suc (suc zero)) = refl
-case-is f (suc (suc (suc zero))) = refl
-case-is f (suc (suc (suc (suc zero)))) = refl
-case-is f (suc (suc (suc (suc (suc zero))))) = refl
-case-is f (suc (suc (suc (suc (suc (suc zero)))))) = refl
-case-is f (suc (suc (suc (suc (suc (suc (suc zero))))))) = refl
-case-is f (suc (suc (suc (suc (suc (suc (suc (suc zero)))))))) = refl
-case-is f (suc (suc (suc (suc (suc (suc (suc (suc (suc zero))))))))) = refl
-case-is f (suc (suc (suc (suc (suc (suc (suc (suc (suc (suc zero)))))))))) = refl
-case-is f (suc (suc (suc (suc (suc (suc (suc (suc (suc (suc (suc zero))))))))))) = refl
-case-is f (suc (suc (suc (suc (suc (suc (suc (suc (suc (suc (suc (suc zero)))))))))))) = refl
-case-is f (suc (suc (suc (suc (suc (suc (suc (suc (suc (suc (suc (suc (suc n))))))))))))) = past (suc (suc (suc (suc (suc (suc (suc (suc (suc (suc (suc (suc (suc n))))))))))))) (omega arith)
+case-is f =
+    by-op (λ n. isCaseOp n ≡ isCase (statementOf (fields n (f .chan) (f .arg) (f .next) (f .other)))) refl refl refl refl refl refl refl refl refl refl refl refl refl
+    (λ n. past (beyond n) (omega arith)) (f .op)
 
 module _ (rs : List ℕ) where
   pub case-row : (r : Row) → isCaseRow rs r ≡ isCase (rowsIn rs r)
   unfolding isCaseRow rowsIn
-  case-row r = case-is (fieldsOfRow rs r) (fieldsOfRow rs r .op)
+  case-row r = case-is (fieldsOfRow rs r)
 
   module _ (rows : ℕ) where
     pub target-is : (r : Row) → isTarget rs rows r ≡ true → Target rs rows r
@@ -223,23 +154,31 @@ body-length : (bs : List ℕ) → trailerSize ≤ length bs → distance bs ≤ 
 unfolding bodyOf
 body-length bs h g = simp length-drop (omega arith)
 
+-- A slice that has come so far in the check holds every row, capacity and first row.
+pub span-held : (bs : List ℕ) → trailerSize ≤ length bs → countsGood (countsOf bs) ≡ true → countsOf bs .back ≤ length bs - trailerSize
+    → spanOf (countsOf bs .rows) (countsOf bs .channels) (countsOf bs .tasks) ≤ length (bodyOf bs)
+unfolding countsOf countsIn distance
+span-held bs h e g =
+    let n = counts-are (countsOf bs) e in
+    omega (arith, n .5, body-length bs h g)
+
 -- What the three searches through the image from row 0 on have passed.
 module _ (rs : List ℕ) (k : Counts) where
-  capacity-is : (c : ℕ) → capacityBad rs (k .rows) c ≡ false → capacityIn rs (k .rows) c ≤ capacityLimit
+  capacity-is : (c : ℕ) → capacityBad rs (k .rows) c ≡ false → capacityIn rs (k .rows) (chanNo c) ≤ capacityLimit
   unfolding capacityBad
   capacity-is c e = ltb-false _ _ e
 
-  first-is : (t : ℕ) → firstRowBad rs (k .rows) (k .channels) t ≡ false → Target rs (k .rows) (firstRowIn rs (k .rows) (k .channels) t)
+  first-is : (t : ℕ) → firstRowBad rs (k .rows) (k .channels) t ≡ false → Target rs (k .rows) (firstRowIn rs (k .rows) (k .channels) (taskNo t))
   unfolding firstRowBad
-  first-is t e = target-is rs (k .rows) (firstRowIn rs (k .rows) (k .channels) t) (not-false _ e)
+  first-is t e = target-is rs (k .rows) (firstRowIn rs (k .rows) (k .channels) (taskNo t)) (not-false _ e)
 
   all-passed : (bad : ℕ → Bool) (n : ℕ) → firstOf bad n 0 ≡ Nowhere → (i : ℕ) → i < n → bad i ≡ false
   all-passed bad n e i h = ap bad (sym (zero-add i)) ∙ none-bad bad n 0 e i h
 
   body-is : bodyChecked rs k ≡ Good
       → ((i : ℕ) → i < k .rows → StatementSound rs (k .rows) (k .channels) i (rowsIn rs (rowNo i)))
-      × ((c : ℕ) → c < k .channels → capacityIn rs (k .rows) c ≤ capacityLimit)
-      × ((t : ℕ) → t < k .tasks → Target rs (k .rows) (firstRowIn rs (k .rows) (k .channels) t))
+      × ((c : ℕ) → c < k .channels → capacityIn rs (k .rows) (chanNo c) ≤ capacityLimit)
+      × ((t : ℕ) → t < k .tasks → Target rs (k .rows) (firstRowIn rs (k .rows) (k .channels) (taskNo t)))
   unfolding bodyChecked
   body-is e =
       let rows = refused-at badRow (firstOf (rowBad rs (k .rows) (k .channels)) (k .rows) 0) _ e in

@@ -11,9 +11,9 @@ use borrow.Author.Tests.{ltb-true}
 use Rattle.image_laws.specs.Kinds.{Task, Row, Otherwise, Wait, Go, Statement, Do, Close, Range, Repeat, Ifok, Select, Case, Stop}
 use Rattle.meaning.specs.Numbers.{lapLimit, depthLimit}
 use Rattle.meaning.specs.Machine.{Standing, Machine, turn}
-use Rattle.meaning.specs.Image.{Spot, spot, rowNo, imageCase, imageCases, imageDefault, imageRepeat, imageStatement, imageLook, imageStart}
+use Rattle.meaning.specs.Image.{Spot, spot, rowNo, imageCase, imageCases, imageDefault, imageRepeat, imageStatement, imageLook, imageStart, taskNo}
 use Rattle.meaning.specs.Bytes.{bodyOf, rowCount, channelCount, taskCount, rowsIn, rowsOf, tabulate, firstRowIn, firstRowsOf, capacitiesOf, startOf}
-use Rattle.image_check.specs.laws.Sound.{Target, OtherwiseSound, Followed, StatementSound, Sound}
+use Rattle.image_check.specs.Sound.{Target, OtherwiseSound, Followed, StatementSound, Sound}
 use Rattle.meaning_laws.specs.Lists.{All}
 use Rattle.meaning_laws.specs.laws.Lists.{all-set, all-weaken, all-along, all-append, all-replicate}
 use Rattle.meaning_laws.specs.laws.Points.{Default, Leads, Standings, points-fresh, points-turn}
@@ -91,7 +91,7 @@ module _ (bs : List ℕ) (sound : Sound bs) (L : List ℕ → Type 0) (keeps : (
   placed-start : L (replicate depthLimit 0) → Standings Z (startOf bs)
   unfolding startOf imageStart firstRowsOf
   placed-start fine =
-      let first : ℕ → Row = firstRowIn (bodyOf bs) (rowCount bs) (channelCount bs) in
+      let first : ℕ → Row = λ t. firstRowIn (bodyOf bs) (rowCount bs) (channelCount bs) (taskNo t) in
       let rows = all-listed To first (taskCount bs) 0 (λ k a b. sound .firsts k (omega (arith, b))) in
       let spots = all-along To Z (spot (replicate depthLimit 0)) (tabulate first (taskCount bs) 0) (λ r h. placed (replicate depthLimit 0) fine r h) rows in
       points-fresh Z (capacitiesOf bs) (map (spot (replicate depthLimit 0)) (tabulate first (taskCount bs) 0)) spots

@@ -11,12 +11,12 @@ use lib.ListN.{length, length-append}
 use Rattle.image_laws.specs.Kinds.{Row, Port, Nil, On, Op, Send, Forward, Recv, Otherwise, Wait, Go, Statement, Do, Close, Range, Repeat, Ifok, Select, Case, Stop, Fields, Counts, Checked, Good, Refused, First, Nowhere}
 use Rattle.meaning.specs.Numbers.{capacityLimit, caseLimit, lapLimit, depthLimit, imageTooShort, badMark, badVersion, badCounts, badDistance, badRow, badCapacity, badFirstRow}
 use Rattle.meaning.specs.Text.{Job, Body}
-use Rattle.meaning.specs.Image.{rowNo}
+use Rattle.meaning.specs.Image.{rowNo, chanNo, taskNo}
 use Rattle.meaning.specs.Layout.{rowsT}
 use Rattle.meaning.specs.Bytes.{fieldsOf, statementOf, trailerSize, imageMark, imageVersion, spanOf, jobImage, markOf, versionOf, rowCount, channelCount, taskCount, distance, fieldsOfRow, rowsIn, capacityIn, firstRowIn, tabulate}
 use Rattle.image_rows.specs.Rows.{countsIn, countsOf}
 use Rattle.image_check.specs.Check.{sameFields, inTable, isCaseOp, owedAfter, portGood, opGood, isCaseRow, owedAt, isTarget, otherwiseGood, casesFollow, capacityBad, statementGood, rowGood, rowBad, firstRowBad, firstOf, refusedAt, bodyChecked, countsGood, checked}
-use Rattle.image_check.specs.laws.Sound.{isCase, PortSound}
+use Rattle.image_check.specs.Sound.{isCase, PortSound}
 use Rattle.meaning_laws.specs.Lists.{All}
 use Rattle.image_laws.specs.Proper.{ProperOp, Proper}
 use Rattle.image_laws.specs.laws.Rows.{Holds, Aim, OtherwiseLawful, CasesLawful, StatementLawful, RowsLawful, rowsT-length, laidT, firsts-aim}
@@ -116,13 +116,13 @@ module _ (rs : List ℕ) where
         let e : owedAfter (owedAt rs i) y ≡ owedAt rs (suc i) = ap (owedAfter (owedAt rs i)) (sym (ap statementOf (v .0) ∙ v .1)) in
         rw (row-passes i y (v .0) (v .1) (h .0)) (rows-pass ys (suc i) (v .2) (subst (λ n. RowsLawful (rowsIn rs) top channels n (suc i) ys) e (h .1)))
 
-    first-passes : (t : ℕ) → Aim (rowsIn rs) top channels (firstRowIn rs top channels t) → firstRowBad rs top channels t ≡ false
+    first-passes : (t : ℕ) → Aim (rowsIn rs) top channels (firstRowIn rs top channels (taskNo t)) → firstRowBad rs top channels t ≡ false
     unfolding firstRowBad
-    first-passes t a = ap not (target (firstRowIn rs top channels t) a)
+    first-passes t a = ap not (target (firstRowIn rs top channels (taskNo t)) a)
 
-  capacity-passes : (rows c : ℕ) → capacityIn rs rows c ≤ capacityLimit → capacityBad rs rows c ≡ false
+  capacity-passes : (rows c : ℕ) → capacityIn rs rows (chanNo c) ≤ capacityLimit → capacityBad rs rows c ≡ false
   unfolding capacityBad
-  capacity-passes rows c h = le-ltb capacityLimit (capacityIn rs rows c) h
+  capacity-passes rows c h = le-ltb capacityLimit (capacityIn rs rows (chanNo c)) h
 
 -- THE CHECK
 
@@ -177,11 +177,11 @@ module _ (j : Job) (p : Proper j) where
       rows-pass rs xs (written j p) (k .channels) xs 0 (written j p) (laidT (rowsIn rs) (k .rows) (k .channels) (j .tasks) 0 (p .bodies) (omega arith) reads 0)
 
   no-bad-capacity : firstOf (capacityBad rs (k .rows)) (k .channels) 0 ≡ Nowhere
-  no-bad-capacity = none-tabulated (capacityBad rs (k .rows)) (capacityIn rs (k .rows)) (λ n. n ≤ capacityLimit) (capacity-passes rs (k .rows)) (k .channels) 0 (rw (capacities-tabulated j) (p .capacities))
+  no-bad-capacity = none-tabulated (capacityBad rs (k .rows)) (λ c. capacityIn rs (k .rows) (chanNo c)) (λ n. n ≤ capacityLimit) (capacity-passes rs (k .rows)) (k .channels) 0 (rw (capacities-tabulated j) (p .capacities))
 
   no-bad-first : firstOf (firstRowBad rs (k .rows) (k .channels)) (k .tasks) 0 ≡ Nowhere
   no-bad-first =
-      none-tabulated (firstRowBad rs (k .rows) (k .channels)) (firstRowIn rs (k .rows) (k .channels)) (Aim (rowsIn rs) (k .rows) (k .channels))
+      none-tabulated (firstRowBad rs (k .rows) (k .channels)) (λ t. firstRowIn rs (k .rows) (k .channels) (taskNo t)) (Aim (rowsIn rs) (k .rows) (k .channels))
       (first-passes rs (rowsT (j .tasks) 0) (written j p) (k .channels)) (k .tasks) 0
       (rw (firsts-tabulated j p) (firsts-aim (rowsIn rs) (k .rows) (k .channels) (j .tasks) 0 (omega arith) reads))
 

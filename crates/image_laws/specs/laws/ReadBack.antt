@@ -11,10 +11,10 @@ use Rattle.image_laws.specs.Kinds.{Row, Port, Nil, On, Send, Forward, Re
 use Rattle.meaning.specs.Numbers.{rowLimit, channelLimit}
 use Rattle.meaning.specs.Events.{portNumber}
 use Rattle.meaning.specs.Text.{Job}
-use Rattle.meaning.specs.Image.{rowNo, Rows}
+use Rattle.meaning.specs.Image.{rowNo, Rows, chanNo, taskNo}
 use Rattle.meaning.specs.Layout.{rowsT, firstRows}
 use Rattle.meaning.specs.Bytes.{fieldsOf, portOf, statementOf, rowSize, trailerSize, imageMark, imageVersion, two, bytesOf, rowBytes, firstBytes, spanOf, trailer, imageBytes, jobImage, byteAt, twoOf, twoAt, trailerOf, rowCount, channelCount, taskCount, distance, markOf, versionOf, bodyOf, fieldsAt, fieldsOfRow, rowsIn, capacityIn, firstRowIn, tabulate, rowsOf, capacitiesOf, firstRowsOf}
-use Rattle.image_check.specs.laws.Sound.{PortSound}
+use Rattle.image_check.specs.Sound.{PortSound}
 use Rattle.meaning_laws.specs.Lists.{All}
 use Rattle.image_laws.specs.Proper.{Proper}
 use Rattle.image_laws.specs.laws.Rows.{firstRows-length, Holds, listRows, holds-self, Aim, StatementLawful, RowsLawful, laidT, firsts-aim}
@@ -131,7 +131,7 @@ rows-there rows top channels few declared rs owed i (x ∷ xs) post h e =
 
 -- CAPACITIES AND FIRST ROWS, from number i on behind a place of the image rs
 
-capacities-there : (rs : List ℕ) (rows i : ℕ) (xs post : List ℕ) → drop (rowSize * rows + i) rs ≡ xs ++ post → tabulate (capacityIn rs rows) (length xs) i ≡ xs
+capacities-there : (rs : List ℕ) (rows i : ℕ) (xs post : List ℕ) → drop (rowSize * rows + i) rs ≡ xs ++ post → tabulate (λ c. capacityIn rs rows (chanNo c)) (length xs) i ≡ xs
 unfolding tabulate capacityIn
 capacities-there rs rows i [] post e = refl
 capacities-there rs rows i (x ∷ xs) post e =
@@ -139,7 +139,7 @@ capacities-there rs rows i (x ∷ xs) post e =
     (capacities-there rs rows (suc i) xs post (further rs (rowSize * rows + i) 1 (rowSize * rows + suc i) (x ∷ []) (xs ++ post) refl (omega arith) e))
 
 firsts-there : (rs : List ℕ) (rows channels i : ℕ) (xs : List Row) (post : List ℕ) → All (λ r. r .0 < wordEnd) xs → drop (rowSize * rows + channels + 2 * i) rs ≡ firstBytes xs ++ post
-    → tabulate (firstRowIn rs rows channels) (length xs) i ≡ xs
+    → tabulate (λ t. firstRowIn rs rows channels (taskNo t)) (length xs) i ≡ xs
 unfolding tabulate firstRowIn firstBytes
 firsts-there rs rows channels i [] post h e = refl
 firsts-there rs rows channels i (x ∷ xs) post h e =
@@ -194,7 +194,7 @@ module _ (j : Job) where
   firsts-at : drop (rowSize * length rows + length (j .capacities)) (jobImage j) ≡ firstBytes firsts ++ end
   firsts-at = further (jobImage j) (rowSize * length rows) (length (j .capacities)) _ (j .capacities) (firstBytes firsts ++ end) refl refl capacities-at
 
-  pub capacities-tabulated : tabulate (capacityIn (jobImage j) (length (rowsT (j .tasks) 0))) (length (j .capacities)) 0 ≡ j .capacities
+  pub capacities-tabulated : tabulate (λ c. capacityIn (jobImage j) (length (rowsT (j .tasks) 0)) (chanNo c)) (length (j .capacities)) 0 ≡ j .capacities
   capacities-tabulated = capacities-there (jobImage j) (length rows) 0 (j .capacities) (firstBytes firsts ++ end) (rw add-zero capacities-at)
 
   module _ (p : Proper j) where
@@ -211,7 +211,7 @@ module _ (j : Job) where
         fits [] a = tt
         fits (r ∷ rs) a = (omega (arith, a .0 .below, p .most-rows), fits rs (a .1))
 
-    pub firsts-tabulated : tabulate (firstRowIn (jobImage j) (length (rowsT (j .tasks) 0)) (length (j .capacities))) (length (j .tasks)) 0 ≡ firstRows (j .tasks) 0
+    pub firsts-tabulated : tabulate (λ t. firstRowIn (jobImage j) (length (rowsT (j .tasks) 0)) (length (j .capacities)) (taskNo t)) (length (j .tasks)) 0 ≡ firstRows (j .tasks) 0
     firsts-tabulated = rw (← firstRows-length (j .tasks) 0) (firsts-there (jobImage j) (length rows) (length (j .capacities)) 0 firsts end firsts-fit (rw add-zero firsts-at))
 
 -- Read behind any bytes.

@@ -10,7 +10,7 @@ use Rattle.meaning.specs.Numbers.{depthLimit}
 use Rattle.meaning.specs.Machine.{Machine, fresh, turn, runs}
 use Rattle.meaning.specs.Image.{Spot, spot, imageLook, imageStart}
 use Rattle.meaning.specs.Bytes.{taskCount, rowsOf, tabulate, capacitiesOf, firstRowsOf, startOf}
-use Rattle.image_check.specs.laws.Sound.{Sound}
+use Rattle.image_check.specs.Sound.{Sound}
 use Rattle.meaning_laws.specs.Lists.{All}
 use Rattle.meaning_laws.specs.laws.Runs.{runs-keep}
 use Rattle.meaning_laws.specs.laws.Steady.{capacitiesIn, steady-turn}

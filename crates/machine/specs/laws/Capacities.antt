@@ -6,6 +6,7 @@ use native.Mathlib.Nat.{le-of-suc-le-suc, add-zero, zero-add}
 use native.Mathlib.Omega.{arith}
 use lib.ListN.{length, getD}
 use Rattle.image_laws.specs.laws.Whole.{length-tabulate}
+use Rattle.meaning.specs.Image.{chanNo}
 use Rattle.meaning.specs.Bytes.{rowCount, channelCount, bodyOf, capacityIn, tabulate, capacitiesOf}
 
 module _ {A : Type 0} (g : ℕ → A) where
@@ -18,8 +19,8 @@ module _ {A : Type 0} (g : ℕ → A) where
 module _ (bs : List ℕ) where
   pub capacity-count : length (capacitiesOf bs) ≡ channelCount bs
   unfolding capacitiesOf
-  capacity-count = length-tabulate (capacityIn (bodyOf bs) (rowCount bs)) (channelCount bs) 0
+  capacity-count = length-tabulate (λ c. capacityIn (bodyOf bs) (rowCount bs) (chanNo c)) (channelCount bs) 0
 
-  pub capacity-at : (c : ℕ) → c < channelCount bs → getD (capacitiesOf bs) c 0 ≡ capacityIn (bodyOf bs) (rowCount bs) c
+  pub capacity-at : (c : ℕ) → c < channelCount bs → getD (capacitiesOf bs) c 0 ≡ capacityIn (bodyOf bs) (rowCount bs) (chanNo c)
   unfolding capacitiesOf
-  capacity-at c h = tabulate-at (capacityIn (bodyOf bs) (rowCount bs)) (channelCount bs) 0 c 0 h ∙ ap (capacityIn (bodyOf bs) (rowCount bs)) (zero-add c)
+  capacity-at c h = tabulate-at (λ c. capacityIn (bodyOf bs) (rowCount bs) (chanNo c)) (channelCount bs) 0 c 0 h ∙ ap (λ n. capacityIn (bodyOf bs) (rowCount bs) (chanNo n)) (zero-add c)

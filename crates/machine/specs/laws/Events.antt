@@ -14,7 +14,7 @@ use Rattle.meaning.specs.Events.{noChannel, noValue, noPartner, portNumber, num
 use Rattle.meaning.specs.Numbers.{halted, noSuchTask, noFault}
 use Rattle.meaning.specs.Image.{rowNo}
 use Rattle.meaning.specs.Bytes.{portOf, rowCount, channelCount, bodyOf, rowsIn, tabulate}
-use Rattle.image_check.specs.laws.Sound.{PortSound, OpSound, Followed, StatementSound, Sound}
+use Rattle.image_check.specs.Sound.{PortSound, OpSound, Followed, StatementSound, Sound}
 use Rattle.meaning_laws.specs.Lists.{All}
 use Rattle.meaning_laws.specs.laws.Lists.{all-get}
 use Rattle.machine_state.specs.Cells.{consIf, keep}

@@ -5,6 +5,7 @@ use mathlib.Core.List.{List, [], _∷_, _++_, map}
 use Prim.Native.Nat.{ℕ}
 use lib.ListN.{replicate}
 use Rattle.machine.specs.Kinds.{Task, Status, Able, Waiting, Ended, TaskState, State, EventNumbers}
+use Rattle.meaning.specs.Image.{taskNo}
 use Rattle.meaning.specs.Events.{event, numbers}
 use Rattle.meaning.specs.Bytes.{fieldsOf, statementOf, trailerOf, distance, markOf, versionOf, bodyOf, fieldsOfRow, rowsIn, capacityIn, firstRowIn}
 use Rattle.image_rows.specs.Rows.{countsIn, countsOf}
@@ -13,9 +14,6 @@ use Rattle.meaning_laws.specs.Fits.{times}
 use Rattle.machine_fit.specs.Fitting.{every, nameFits, taskFits, lengthFits, fitting}
 use Rattle.machine_step.specs.Step.{stepped}
 use Rattle.machine.specs.Public.{turned}
-
-abbrev taskNo : ℕ → Task
-taskNo n = record { 0 = n }
 
 -- A task's record: status and row.
 abbrev standing : Status → ℕ → TaskState

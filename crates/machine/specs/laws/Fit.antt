@@ -3,7 +3,7 @@ use mathlib.Core.Path.{_≡_}
 use mathlib.Core.List.{List, []}
 use Prim.Native.Nat.{ℕ, _≤_, _<_}
 use lib.ListN.{length, getD}
-use Rattle.meaning.specs.Image.{imageLook}
+use Rattle.meaning.specs.Image.{imageLook, chanNo}
 use Rattle.meaning.specs.Bytes.{rowCount, channelCount, taskCount, bodyOf, rowsOf, capacityIn}
 use Rattle.meaning_laws.specs.laws.Points.{Standings}
 use Rattle.meaning_laws.specs.Fits.{Fits}
@@ -27,6 +27,6 @@ pub record Fit (bs : List ℕ) (s : State) (b : Values) : Type 0 where
   pub taskcount : s .taskcount ≡ taskCount bs
   pub chancount : s .chancount ≡ channelCount bs
   pub waiting : s .waiting ≤ 16
-  pub lengths : (c : ℕ) → c < channelCount bs → getD (s .chans) c blankChan .len ≤ capacityIn (bodyOf bs) (rowCount bs) c
+  pub lengths : (c : ℕ) → c < channelCount bs → getD (s .chans) c blankChan .len ≤ capacityIn (bodyOf bs) (rowCount bs) (chanNo c)
   pub rows : Standings (OnRow bs) (view bs s b)
   pub fits : Fits (imageLook (rowsOf bs)) (view bs s b)

@@ -14,16 +14,17 @@ use lib.Seq.{getD-take}
 use Rattle.machine.specs.Kinds.{Task, Wait, Go, Statement, Do, Close, Range, Repeat, Ifok, Select, Case, Stop, Status, Able, Waiting, Ended, TaskState, ChanState, State}
 use Rattle.meaning.specs.laws.Tests.{both}
 use Rattle.meaning.specs.Machine.{Standing}
-use Rattle.meaning.specs.Image.{Rows, Spot, imageDefault, imageRepeat, imageStatement, imageLook}
+use Rattle.meaning.specs.Image.{Rows, Spot, imageDefault, imageRepeat, imageStatement, imageLook, chanNo, taskNo}
 use Rattle.meaning.specs.Bytes.{rowCount, channelCount, taskCount, bodyOf, rowsIn, rowsOf, capacityIn, capacitiesOf}
 use Rattle.image_rows.specs.Rows.{countsIn, countsOf}
 use Rattle.image_check.specs.Check.{isTarget}
-use Rattle.image_check.specs.laws.Sound.{Sound, Target, target-is, is-target}
+use Rattle.image_check.specs.Sound.{Sound, Target}
+use Rattle.image_check.specs.laws.Sound.{target-is, is-target}
 use Rattle.meaning_laws.specs.Lists.{All}
 use Rattle.meaning_laws.specs.Fits.{times, mark, waitingAt, Within, CanWait, PlaceOf, Place}
 use Rattle.image_laws.specs.laws.Closed.{OnRow}
 use Rattle.machine_state.specs.State.{Values, blankTask, blankChan, orderOf}
-use Rattle.machine_fit.specs.Fitting.{every, taskNo, canWait, placeFits, taskFits, lengthFits, nameFits, fitting}
+use Rattle.machine_fit.specs.Fitting.{every, canWait, placeFits, taskFits, lengthFits, nameFits, fitting}
 use Rattle.machine.specs.laws.Capacities.{capacity-count, capacity-at}
 use Rattle.machine.specs.laws.Fit.{Arrays, Fit}
 use Rattle.machine.specs.View.{standingOf, channelsOf, viewIn}
@@ -201,7 +202,7 @@ module _ (bs : List ℕ) (sound : Sound bs) (s : State) (b : Values) (a : Arrays
     pub fault : s .fault ≤ 4
     pub waiting : s .waiting ≤ 16
     pub names : (i : ℕ) → i < s .waiting → getD (s .order) i (taskNo 0) .0 < taskCount bs
-    pub lengths : (c : ℕ) → c < channelCount bs → getD (s .chans) c blankChan .len ≤ capacityIn rs (rowCount bs) c
+    pub lengths : (c : ℕ) → c < channelCount bs → getD (s .chans) c blankChan .len ≤ capacityIn rs (rowCount bs) (chanNo c)
     pub tasks : (i : ℕ) → i < taskCount bs → TaskFit i
 
   name-is : (i : ℕ) → i < 16 → nameFits (countsOf bs) s i ≡ true → getD (s .order) i (taskNo 0) .0 < taskCount bs
@@ -216,13 +217,13 @@ module _ (bs : List ℕ) (sound : Sound bs) (s : State) (b : Values) (a : Arrays
       let small : i % 16 ≡ i = omega arith in
       rw small (lt-ltb _ _ l)
 
-  length-is : (c : ℕ) → c < 16 → lengthFits rs (countsOf bs) s c ≡ true → getD (s .chans) c blankChan .len ≤ capacityIn rs (rowCount bs) c
+  length-is : (c : ℕ) → c < 16 → lengthFits rs (countsOf bs) s c ≡ true → getD (s .chans) c blankChan .len ≤ capacityIn rs (rowCount bs) (chanNo c)
   unfolding lengthFits countsOf countsIn rowCount
   length-is c h e =
       let small : c % 16 ≡ c = omega arith in
       leb-true _ _ (rw small at e)
 
-  is-length : (c : ℕ) → c < 16 → getD (s .chans) c blankChan .len ≤ capacityIn rs (rowCount bs) c → lengthFits rs (countsOf bs) s c ≡ true
+  is-length : (c : ℕ) → c < 16 → getD (s .chans) c blankChan .len ≤ capacityIn rs (rowCount bs) (chanNo c) → lengthFits rs (countsOf bs) s c ≡ true
   unfolding lengthFits countsOf countsIn rowCount
   is-length c h l =
       let small : c % 16 ≡ c = omega arith in

@@ -18,7 +18,7 @@ use Rattle.meaning.specs.Numbers.{stampModulus, sendOnClosed, closeOfNil, close
 use Rattle.meaning.specs.Machine as m
 use Rattle.meaning.specs.Image.{Spot, spot, rowNo, imageCase, imageCases, imageDefault, imageRepeat, imageStatement, imageLook}
 use Rattle.meaning.specs.Bytes.{rowCount, channelCount, bodyOf, rowsIn, rowsOf, capacityIn, tabulate, capacitiesOf}
-use Rattle.image_check.specs.laws.Sound.{PortSound, OpSound, Followed, StatementSound, Sound}
+use Rattle.image_check.specs.Sound.{PortSound, OpSound, Followed, StatementSound, Sound}
 use Rattle.meaning_laws.specs.laws.Lists.{all-at}
 use Rattle.meaning_laws.specs.laws.Spare.{spare}
 use Rattle.image_laws.specs.laws.Closed.{OnRow}
@@ -147,7 +147,7 @@ module _ (bs : List ℕ) (sound : Sound bs) (s : State) (b : Values) (a : Arrays
         ap (λ (k : m.Channel). m.hasRoom k) here-is ∙ rw (l, capacity-at bs (c .0) h, chan-is)
 
     room-left : r.hasRoom rs (rowCount bs) s c ≡ true → getD (s .chans) (c .0) blankChan .len < 16
-    room-left e = omega (arith, ltb-true (chanIn (s .chans) c .len) (capacityIn rs (rowCount bs) (c .0)) e, ap (λ k. k .len) chan-is, sound .capacities (c .0) h)
+    room-left e = omega (arith, ltb-true (chanIn (s .chans) c .len) (capacityIn rs (rowCount bs) c) e, ap (λ k. k .len) chan-is, sound .capacities (c .0) h)
 
   -- THE MOVER `me` stands as x in the state.
 

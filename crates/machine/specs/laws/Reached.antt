@@ -8,7 +8,7 @@ use native.Mathlib.Omega.{arith}
 use lib.ListN.{length, getD, drop, length-append, length-drop, getD-replicate}
 use Rattle.machine.specs.Kinds.{Task, Good, State, ChanState}
 use Rattle.meaning.specs.Machine as m
-use Rattle.meaning.specs.Image.{imageLook}
+use Rattle.meaning.specs.Image.{imageLook, taskNo}
 use Rattle.meaning.specs.Bytes.{rowCount, channelCount, taskCount, bodyOf, firstRowIn, tabulate, rowsOf, startOf}
 use Rattle.image_rows.specs.Rows.{countsIn, countsOf}
 use Rattle.image_check.specs.Check.{checked}
@@ -67,8 +67,8 @@ module _ (bs : List ℕ) (good : checked bs ≡ Good) where
   first-tasks : length (freshTasks (bodyOf bs) (countsOf bs)) ≡ 16
   unfolding freshTasks countsOf countsIn taskCount
   first-tasks =
-      let l = tabulate (λ t. freshTask (firstRowIn (bodyOf bs) (countsOf bs .rows) (countsOf bs .channels) t)) (taskCount bs) 0 in
-      omega (arith, length-append l (drop (length l) unusedTasks), length-drop (length l) unusedTasks, length-tabulate (λ t. freshTask (firstRowIn (bodyOf bs) (countsOf bs .rows) (countsOf bs .channels) t)) (taskCount bs) 0, good-sound bs good .most-tasks)
+      let l = tabulate (λ t. freshTask (firstRowIn (bodyOf bs) (countsOf bs .rows) (countsOf bs .channels) (taskNo t))) (taskCount bs) 0 in
+      omega (arith, length-append l (drop (length l) unusedTasks), length-drop (length l) unusedTasks, length-tabulate (λ t. freshTask (firstRowIn (bodyOf bs) (countsOf bs .rows) (countsOf bs .channels) (taskNo t))) (taskCount bs) 0, good-sound bs good .most-tasks)
 
   first-arrays : Arrays first freshValues
   first-arrays = record { tasks16 = first-tasks; chans16 = refl; order16 = refl; rows16 = refl; cells16 = λ c h. ap (λ (l : List ℕ). length l) (getD-replicate 16 c noValues [] h) }

@@ -9,11 +9,12 @@ use lib.ListN.{length, take, replicate}
 use Rattle.machine.specs.Kinds.{Able, Good, TaskState, Started}
 use Rattle.meaning.specs.Numbers.{depthLimit}
 use Rattle.meaning.specs.Machine.{fresh}
-use Rattle.meaning.specs.Image.{spot, imageStart}
+use Rattle.meaning.specs.Image.{spot, imageStart, taskNo}
 use Rattle.meaning.specs.Bytes.{rowCount, channelCount, taskCount, bodyOf, firstRowIn, tabulate, capacitiesOf, firstRowsOf, startOf}
 use Rattle.image_rows.specs.Rows.{countsIn, countsOf}
 use Rattle.image_check.specs.Check.{checked}
-use Rattle.image_check.specs.laws.Sound.{Sound, good-sound}
+use Rattle.image_check.specs.Sound.{Sound}
+use Rattle.image_check.specs.laws.Sound.{good-sound}
 use Rattle.machine_state.specs.laws.Cells.{take-over}
 use Rattle.machine_state.specs.Cells.{over}
 use Rattle.machine_state.specs.State.{noValues}
@@ -36,13 +37,13 @@ open-channels (c ∷ cs) (suc n) cells h = ap (λ l. record { capacity = c; clos
 
 module _ (bs : List ℕ) where
   abbrev firstTask : ℕ → TaskState
-  firstTask t = freshTask (firstRowIn (bodyOf bs) (rowCount bs) (channelCount bs) t)
+  firstTask t = freshTask (firstRowIn (bodyOf bs) (rowCount bs) (channelCount bs) (taskNo t))
 
-  fresh-tasks : (n : ℕ) → map standingOf (take n (over (tabulate firstTask n 0) unusedTasks)) ≡ map (λ p. record { status = Able; register = 0; ok = false; point = p }) (map (spot (replicate depthLimit 0)) (tabulate (firstRowIn (bodyOf bs) (rowCount bs) (channelCount bs)) n 0))
+  fresh-tasks : (n : ℕ) → map standingOf (take n (over (tabulate firstTask n 0) unusedTasks)) ≡ map (λ p. record { status = Able; register = 0; ok = false; point = p }) (map (spot (replicate depthLimit 0)) (tabulate (λ t. firstRowIn (bodyOf bs) (rowCount bs) (channelCount bs) (taskNo t)) n 0))
   fresh-tasks n =
       ap (λ l. map standingOf l) (ap (λ m. take m (over (tabulate firstTask n 0) unusedTasks)) (sym (length-tabulate firstTask n 0)) ∙ take-over (tabulate firstTask n 0) unusedTasks)
       ∙ map-tabulate standingOf firstTask n 0
-      ∙ sym (ap (λ l. map (λ p. record { status = Able; register = 0; ok = false; point = p }) l) (map-tabulate (spot (replicate depthLimit 0)) (firstRowIn (bodyOf bs) (rowCount bs) (channelCount bs)) n 0) ∙ map-tabulate _ _ n 0)
+      ∙ sym (ap (λ l. map (λ p. record { status = Able; register = 0; ok = false; point = p }) l) (map-tabulate (spot (replicate depthLimit 0)) (λ t. firstRowIn (bodyOf bs) (rowCount bs) (channelCount bs) (taskNo t)) n 0) ∙ map-tabulate _ _ n 0)
 
   few-capacities : Sound bs → length (capacitiesOf bs) ≤ 16
   few-capacities sound = omega (arith, capacity-count bs, sound .most-channels)

@@ -12,9 +12,9 @@ use lib.Seq.{getD-set-same, getD-set-other}
 use Rattle.machine.specs.Kinds.{Task, Chan, Row, Port, Nil, On, Op, Send, Forward, Recv, Otherwise, Wait, Go, Statement, Do, Close, Range, Repeat, Ifok, Select, Case, Stop, Status, Able, Waiting, Ended, TaskState, ChanState, State, Change, Keep, Append, Take, Refill, Queue, Stay, Join, Leave, Plan, Turned, Receiving, Sending, Offer, Nothing, By, Found, Nobody, At}
 use Rattle.meaning.specs.Numbers.{closeOfNil, closeOfClosed, closeUnderSender, noSuchTask, halted, noFault}
 use Rattle.meaning.specs.Machine as m
-use Rattle.meaning.specs.Image.{Spot, imageLook, rowNo}
+use Rattle.meaning.specs.Image.{Spot, imageLook, rowNo, chanNo}
 use Rattle.meaning.specs.Bytes.{rowCount, channelCount, bodyOf, rowsIn, rowsOf, capacitiesOf, capacityIn}
-use Rattle.image_check.specs.laws.Sound.{Sound}
+use Rattle.image_check.specs.Sound.{Sound}
 use Rattle.meaning_laws.specs.laws.Points.{Standings}
 use Rattle.meaning_laws.specs.Fits.{Within, Fits}
 use Rattle.meaning_laws.specs.laws.Fits.{within-at, fits-turn}
@@ -265,7 +265,7 @@ module _ (rs : List ℕ) (rows : ℕ) (s : State) (b : Values) (a : Arrays s b) 
 
 -- Lengths of at most sixteen that are within the capacities as the view shows them.
 lengths-within : (bs : List ℕ) → Sound bs → (s : State) (b : Values) → Arrays s b → Fits (imageLook (rowsOf bs)) (view bs s b) → (c : ℕ) → c < channelCount bs → getD (s .chans) c blankChan .len ≤ 16
-    → getD (s .chans) c blankChan .len ≤ capacityIn (bodyOf bs) (rowCount bs) c
+    → getD (s .chans) c blankChan .len ≤ capacityIn (bodyOf bs) (rowCount bs) (chanNo c)
 unfolding viewIn
 lengths-within bs sound s b a f c h l =
     let k : Chan = record { 0 = c } in

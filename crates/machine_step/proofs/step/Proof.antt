@@ -12,16 +12,16 @@ returns c =
 
 returns-2 : tie.Need-returns-2
 returns-2 c =
-    let a = c .before .before .before .before .before .before .before .before .before .before .before .before .before .before .args in
+    let a = c .before .before .before .before .before .before .before .before .before .before .before .before .before .args in
     c .close-port .ensures
-    ∙ sym (step-closes (now (a .body)) (a .rows) (a .s) (now (a .values)) (a .t) (a .choice) (sym (c .before .before .before .before .before .before .before .before .before .refused-by .ensures) ∙ c .before .before .before .before .before .before .before .before .if1 .left)
+    ∙ sym (step-closes (now (a .body)) (a .rows) (a .s) (now (a .values)) (a .t) (a .choice) (sym (c .before .before .before .before .before .before .before .before .refused-by .ensures) ∙ c .before .before .before .before .before .before .before .if1 .left)
     (c .before .before .before .before .before .statement-at .result) (c .before .before .before .before .before .statement-at .ensures) _ _ (sym (c .before .before .before .before .closing-of .ensures) ∙ c .before .before .closing .given .1))
 
 returns-3 : tie.Need-returns-3
 returns-3 c =
-    let a = c .before .before .before .before .before .before .before .before .before .before .before .before .before .before .before .before .before .before .args in
+    let a = c .before .before .before .before .before .before .before .before .before .before .before .before .before .before .before .before .before .args in
     c .settle .ensures
-    ∙ sym (step-plans (now (a .body)) (a .rows) (a .s) (now (a .values)) (a .t) (a .choice) (sym (c .before .before .before .before .before .before .before .before .before .before .before .before .before .refused-by .ensures) ∙ c .before .before .before .before .before .before .before .before .before .before .before .before .if1 .left)
+    ∙ sym (step-plans (now (a .body)) (a .rows) (a .s) (now (a .values)) (a .t) (a .choice) (sym (c .before .before .before .before .before .before .before .before .before .before .before .before .refused-by .ensures) ∙ c .before .before .before .before .before .before .before .before .before .before .before .if1 .left)
     (c .before .before .before .before .before .before .before .before .before .statement-at .result) (c .before .before .before .before .before .before .before .before .before .statement-at .ensures) (c .before .before .before .before .before .offer-of .result) (c .before .before .before .before .plan-of .result)
     (sym (c .before .before .before .before .before .before .before .before .closing-of .ensures) ∙ c .before .before .before .before .before .before .enum-told .given .1) (c .before .before .before .before .before .offer-of .ensures) (c .before .before .before .before .plan-of .ensures))
 
@@ -35,7 +35,6 @@ step-spec =
     (λ c κs. search needs)
     (λ c κs. search needs)
     returns
-    (λ c. search needs)
     (λ c κs. search needs)
     (λ c κs. search needs)
     (λ c. search needs)

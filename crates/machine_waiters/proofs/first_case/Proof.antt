@@ -19,13 +19,13 @@ returns : tie.Need-returns Inv-loop μ-loop
 returns c =
     let a = c .before .before .before .before .before .before .before .before .before .before .args in
     let l = c .before .before .before .before .before .before .before .loop in
-    rw (l .inv .1 .1, case-step (now (a .body)) (a .side) (a .c) (a .k) (l .i) (a .row .0 + 1) (search needs), ← c .before .before .before .before .before .statement-at .ensures, ← c .before .before .before .before .case-offer .ensures, ← c .before .before .before .serving-offer .ensures, c .before .f .given .1)
+    rw (l .inv .1 .1, case-step (now (a .body)) (a .side) (a .c) (a .k) (l .i) (a .row .0 + 1) (search needs), ← c .before .before .before .before .before .case-at .ensures, ← c .before .before .before .before .case-offer .ensures, ← c .before .before .before .serving-offer .ensures, c .before .f .given .1)
 
 loop-again : tie.Need-loop-again Inv-loop μ-loop
 loop-again c =
     let a = c .before .before .before .before .before .before .before .before .before .args in
     let l = c .before .before .before .before .before .before .loop in
-    (search needs, (l .inv .1 .0, rw (l .inv .1 .1, case-step (now (a .body)) (a .side) (a .c) (a .k) (l .i) (a .row .0 + 1) (search needs), ← c .before .before .before .before .statement-at .ensures, ← c .before .before .before .case-offer .ensures, ← c .before .before .serving-offer .ensures, c .enum-told .given .1)))
+    (search needs, (l .inv .1 .0, rw (l .inv .1 .1, case-step (now (a .body)) (a .side) (a .c) (a .k) (l .i) (a .row .0 + 1) (search needs), ← c .before .before .before .before .case-at .ensures, ← c .before .before .before .case-offer .ensures, ← c .before .before .serving-offer .ensures, c .enum-told .given .1)))
 
 returns-2 : tie.Need-returns-2 Inv-loop μ-loop
 unfolding firstCase

@@ -9,4 +9,4 @@ returns c = rw (c .matched-by .ensures, c .before .statement-at .ensures)
 
 pub matched-at-spec : {M : Type 1} → statement M
 matched-at-spec =
-    tie.close (tie.spec (λ c. search needs) (λ c κs. search needs) (λ c κs. search needs) returns)
+    tie.close (tie.spec (λ c κs. search needs) (λ c κs. search needs) returns)

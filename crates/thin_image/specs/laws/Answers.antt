@@ -37,7 +37,7 @@ module _ (bs : List ℕ) where
     unfolding rowAsked heldOf countsHeld countsOf countsIn rowCount
     no-row n h = rw (good, le-ltb _ _ h)
 
-    pub good-capacity : (c : Chan) → c .0 < channelCount bs → capacityOf bs c ≡ capacityFound (capacityIn (bodyOf bs) (rowCount bs) (c .0))
+    pub good-capacity : (c : Chan) → c .0 < channelCount bs → capacityOf bs c ≡ capacityFound (capacityIn (bodyOf bs) (rowCount bs) c)
     unfolding capacityAsked heldOf countsHeld countsOf countsIn rowCount channelCount
     good-capacity c h = rw (good, lt-ltb _ _ h)
 
@@ -45,7 +45,7 @@ module _ (bs : List ℕ) where
     unfolding capacityAsked heldOf countsHeld countsOf countsIn channelCount
     no-channel c h = rw (good, le-ltb _ _ h)
 
-    pub good-first-row : (t : Task) → t .0 < taskCount bs → firstRowOf bs t ≡ firstRowFound (firstRowIn (bodyOf bs) (rowCount bs) (channelCount bs) (t .0))
+    pub good-first-row : (t : Task) → t .0 < taskCount bs → firstRowOf bs t ≡ firstRowFound (firstRowIn (bodyOf bs) (rowCount bs) (channelCount bs) t)
     unfolding firstRowAsked heldOf countsHeld countsOf countsIn rowCount channelCount taskCount
     good-first-row t h = rw (good, lt-ltb _ _ h)
 

@@ -8,4 +8,4 @@ unfolding capacityIn
 returns c = rw (c .byte-at .ensures)
 
 pub capacity-in-spec : {M : Type 1} → statement M
-capacity-in-spec = tie.close (tie.spec (λ c. search needs) (λ c. search needs) (λ c κs. search needs) returns)
+capacity-in-spec = tie.close (tie.spec (λ c. search needs) (λ c. search needs) (λ c. search needs) (λ c κs. search needs) returns)

@@ -10,4 +10,4 @@ returns c = rw (c .two-at .ensures)
 pub first-row-in-spec : {M : Type 1} → statement M
 first-row-in-spec =
     tie.close
-    (tie.spec (λ c. search needs) (λ c. search needs) (λ c. search needs) (λ c. search needs) (λ c κs. search needs) returns)
+    (tie.spec (λ c. search needs) (λ c. search needs) (λ c. search needs) (λ c. search needs) (λ c. search needs) (λ c κs. search needs) returns)

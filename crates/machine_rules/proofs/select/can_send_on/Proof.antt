@@ -8,15 +8,14 @@ use Rattle.machine_rules.proofs.select.can_send_on.Tie as tie
 
 returns-2 : tie.Need-returns-2
 returns-2 c =
-    let a = c .before .before .before .before .before .before .before .before .before .before .args in
+    let a = c .before .before .before .before .before .before .before .before .before .args in
     let e : c .before .before .first-waiter .result .found ≡ firstWaiter (now (a .body)) (a .s) Receiving (a .c) = ap (λ (p : Partner). p .found) (c .before .before .first-waiter .ensures) in
-    rw (c .can-give .ensures, e, c .before .before .before .capacity-in .ensures, c .before .before .before .before .before .if1 .left)
+    rw (c .can-give .ensures, e, c .before .before .before .capacity-in .ensures, c .before .before .before .before .if1 .left)
 
 pub can-send-on-spec : {M : Type 1} → statement M
 can-send-on-spec =
     tie.close
     (tie.spec
-    (λ c. search needs)
     (λ c. search needs)
     (λ c. search needs)
     (λ c. search needs)

@@ -21,7 +21,7 @@ returns-2 c =
       chosen-some (now (a .body)) (a .rows) (a .s) (a .choice) (readyRows (now (a .body)) (a .rows) (a .s) (a .k) (a .row .0 + 1)) (λ z. c .before .before .before .if1 .left (c .before .before .before .before .count-ready .ensures ∙ z)),
       ← c .before .before .before .before .count-ready .ensures,
       ← c .before .before .nth-ready .ensures,
-      ← c .before .statement-at .ensures,
+      ← c .before .case-at .ensures,
     ) (c .case-offer .ensures)
 
 pub chosen-case-spec : {M : Type 1} → statement M
