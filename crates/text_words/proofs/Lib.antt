@@ -1,2 +1,5 @@
 -- What the proofs of several functions use.
-pub mod Laws
+pub mod Fronts
+pub mod Keys
+pub mod Decimals
+pub mod Firsts

@@ -1,32 +1,25 @@
 // Bytes to words: the lowest layer of the translator, document 01, 'Job text'. A text is read in place, one word at a time, from
-// any place on; every text and every place is answered.
+// any place on; every text and every place is answered, and each byte of a word is looked at once.
 ghost use mathlib.Core.Path.{_≡_};
-ghost use mathlib.Core.Bool.{true};
-ghost use Prim.Native.Nat.{_+_, _-_, _≤_, min};
-ghost use lib.ListN.{take, drop};
-ghost use Rattle.text_words.specs.Words.{isBlank, isDigit, isLetter, isAllowed, inWord, run, sameWord, placeOf, onlyDigits, leadingZero, isNumber, numberCap, numeral, kindOf, valueOf, wordAt, firstNotAllowed};
+ghost use mathlib.Core.Bool.{true, false};
+ghost use Prim.Native.Nat.{_+_, _<_};
+ghost use lib.Dec.{ltb};
+ghost use lib.ListN.{length, getD, drop};
+ghost use Rattle.text_words.specs.Words.{isBlank, isDigit, isAllowed, inWord, run, wordAt, firstNotAllowed};
+ghost use Rattle.text_words.specs.Scan.{lettersFrom, endsAt, numberBy, wordFrom};
+use crate::bytes::is_allowed;
+use crate::bytes::is_blank;
+use crate::bytes::is_digit;
+use crate::numbers::digit_of;
+use crate::numbers::digits_from;
+use crate::numbers::has_leading_zero;
+use crate::numbers::value_by;
+use crate::table::key_more;
+use crate::table::kind_by;
 
-// The sixteen reserved words in one fixed table: their bytes, filled up to eight, and how many of the eight count.
-const WORDS: [[u8; 8]; 16] = [
-    *b"chan\0\0\0\0",
-    *b"task\0\0\0\0",
-    *b"send\0\0\0\0",
-    *b"forward\0",
-    *b"recv\0\0\0\0",
-    *b"close\0\0\0",
-    *b"range\0\0\0",
-    *b"repeat\0\0",
-    *b"ifok\0\0\0\0",
-    *b"else\0\0\0\0",
-    *b"select\0\0",
-    *b"case\0\0\0\0",
-    *b"default\0",
-    *b"stop\0\0\0\0",
-    *b"end\0\0\0\0\0",
-    *b"nil\0\0\0\0\0",
-];
-
-const LENGTHS: [u8; 16] = [4, 4, 4, 7, 4, 5, 5, 6, 4, 4, 6, 4, 7, 4, 3, 3];
+mod bytes;
+mod numbers;
+mod table;
 
 // The kinds of words beside the reserved ones, whose kinds are 1 to 16 in the table's order.
 pub const NO_WORD: u8 = 0;
@@ -50,49 +43,49 @@ pub enum Place {
     At(usize),
 }
 
-fn is_blank(b: u8) -> bool
-    ensures { λ r. ⌜ r ≡ isBlank b ⌝ }
-{
-    if b == b' ' { true } else { b == b'\n' }
+// The bytes of a word: their key, and the place behind them.
+struct Letters {
+    key: u64,
+    next: usize,
 }
 
-fn is_digit(b: u8) -> bool
-    ensures { λ r. ⌜ r ≡ isDigit b ⌝ }
+// Whether a text has a byte that is not allowed. The walk has no early way out, so that the compiler takes sixteen bytes at a time.
+fn any_not_allowed(text: &[u8]) -> bool
+    ensures { λ r. ⌜ r ≡ ltb (run isAllowed (now (text .entry))) (length (now (text .entry))) ⌝ }
 {
-    if b'0' <= b { b <= b'9' } else { false }
-}
-
-fn is_letter(b: u8) -> bool
-    ensures { λ r. ⌜ r ≡ isLetter b ⌝ }
-{
-    if b'a' <= b { b <= b'z' } else { false }
-}
-
-fn is_allowed(b: u8) -> bool
-    ensures { λ r. ⌜ r ≡ isAllowed b ⌝ }
-{
-    if is_letter(b) {
-        return true;
+    let mut any = false;
+    let mut i = 0;
+    while i < text.len() {
+        any = any | !is_allowed(text[i]);
+        i = i + 1;
     }
-    if is_digit(b) {
-        return true;
-    }
-    is_blank(b)
+    any
 }
 
-// The first byte of a text that is not allowed.
-pub fn first_not_allowed(text: &[u8]) -> Place
-    ensures { λ r. ⌜ r ≡ firstNotAllowed (now (text .entry)) ⌝ }
+// How many bytes stand ahead of the first that is not allowed.
+fn allowed_ahead(text: &[u8]) -> usize
+    ensures { λ r. ⌜ r ≡ run isAllowed (now (text .entry)) ⌝ }
 {
     let mut i = 0;
     while i < text.len() {
         if is_allowed(text[i]) {
             i = i + 1;
         } else {
-            return Place::At(i);
+            return i;
         }
     }
-    Place::Nowhere
+    i
+}
+
+// The first byte of a text that is not allowed: looked for only where there is one.
+pub fn first_not_allowed(text: &[u8]) -> Place
+    ensures { λ r. ⌜ r ≡ firstNotAllowed (now (text .entry)) ⌝ }
+{
+    if any_not_allowed(text) {
+        Place::At(allowed_ahead(text))
+    } else {
+        Place::Nowhere
+    }
 }
 
 // The first place from `at` on that holds no blank: the text's end where only blanks are left, `at` itself past the end.
@@ -110,7 +103,7 @@ fn skip_blanks(text: &[u8], at: usize) -> usize
     i
 }
 
-// The place behind the word that begins at `at`.
+// The place behind the word that goes on at `at`.
 fn word_end(text: &[u8], at: usize) -> usize
     ensures { λ r. ⌜ r ≡ at + run inWord (drop at (now (text .entry))) ⌝ }
 {
@@ -124,127 +117,82 @@ fn word_end(text: &[u8], at: usize) -> usize
     i
 }
 
-// Whether a word is the first n bytes of a row of the table.
-fn is_row(word: &[u8], row: [u8; 8], n: usize) -> bool
-    requires { ⌜ n ≤ 8 ⌝ }
-    ensures { λ r. ⌜ r ≡ sameWord (now (word .entry)) (take n row) ⌝ }
+// Whether a word that comes to `at` ends there.
+fn ends_at(text: &[u8], at: usize) -> bool
+    ensures { λ r. ⌜ r ≡ endsAt (now (text .entry)) at ⌝ }
 {
-    if word.len() != n {
-        return false;
-    }
-    let mut i = 0;
-    while i < n {
-        if word[i] != row[i] {
-            return false;
-        }
-        i = i + 1;
-    }
-    true
-}
-
-// A word's place in the table, 16 where it is none of the reserved words. The table is copied out first, so that it is laid down
-// once and not at every row.
-fn place_of(word: &[u8]) -> u8
-    ensures { λ r. ⌜ r ≡ placeOf (now (word .entry)) ⌝ }
-{
-    let words = WORDS;
-    let lengths = LENGTHS;
-    let mut k: u8 = 0;
-    while k < 16 {
-        let i = k as usize;
-        let row = words[i];
-        let n = lengths[i] as usize;
-        if is_row(word, row, n) {
-            return k;
-        }
-        k = k + 1;
-    }
-    k
-}
-
-fn only_digits(word: &[u8]) -> bool
-    ensures { λ r. ⌜ r ≡ onlyDigits (now (word .entry)) ⌝ }
-{
-    let mut i = 0;
-    while i < word.len() {
-        if is_digit(word[i]) {
-            i = i + 1;
-        } else {
-            return false;
-        }
-    }
-    true
-}
-
-fn has_leading_zero(word: &[u8]) -> bool
-    ensures { λ r. ⌜ r ≡ leadingZero (now (word .entry)) ⌝ }
-{
-    if 1 < word.len() {
-        word[0] == b'0'
+    if at < text.len() {
+        is_blank(text[at])
     } else {
-        false
+        true
     }
 }
 
-fn is_number(word: &[u8]) -> bool
-    ensures { λ r. ⌜ r ≡ isNumber (now (word .entry)) ⌝ }
+// The bytes from `at` to the word's end, gathered behind those of the key `before`.
+fn letters_from(text: &[u8], before: u64, at: usize) -> Letters
+    ensures { λ r. ⌜ r ≡ lettersFrom (now (text .entry)) before at ⌝ }
 {
-    if word.len() == 0 {
-        return false;
-    }
-    if has_leading_zero(word) {
-        return false;
-    }
-    only_digits(word)
-}
-
-fn digit_of(b: u8) -> u32
-    requires { ⌜ isDigit b ≡ true ⌝ }
-    ensures { λ r. ⌜ (r ≡ b - 48) × (r ≤ 9) ⌝ }
-{
-    (b - b'0') as u32
-}
-
-// Every larger number is over every range, and so is 65,536: it stands for all of them.
-fn capped(v: u32) -> u32
-    ensures { λ r. ⌜ r ≡ min numberCap v ⌝ }
-{
-    if v < 65536 { v } else { 65536 }
-}
-
-// The value of a word of digits. It is capped at every digit, so that a number of any length is read and no sum wraps.
-fn numeral_of(word: &[u8]) -> u32
-    requires { ⌜ onlyDigits (now word) ≡ true ⌝ }
-    ensures { λ r. ⌜ r ≡ numeral (now (word .entry)) ⌝ }
-{
-    let mut v: u32 = 0;
-    let mut i = 0;
-    while i < word.len() {
-        v = capped(10 * v + digit_of(word[i]));
+    let mut key = before;
+    let mut i = at;
+    while i < text.len() {
+        let b = text[i];
+        if is_blank(b) {
+            return Letters { key: key, next: i };
+        }
+        key = key_more(key, b);
         i = i + 1;
     }
-    v
+    Letters { key: key, next: i }
 }
 
-// A word's kind. A number is told ahead of the table, which has none, so that the table is walked for words alone.
-fn kind_of(word: &[u8]) -> u8
-    ensures { λ r. ⌜ r ≡ kindOf (now (word .entry)) ⌝ }
+// "A number is digits only, with no leading 0 unless it is `0`": whether the n digits up to `next`, of which this is the first, are one.
+fn is_number(text: &[u8], first: u8, n: usize, next: usize) -> bool
+    ensures { λ r. ⌜ r ≡ numberBy (now (text .entry)) first n next ⌝ }
 {
-    if word.len() == 0 {
-        return NO_WORD;
+    if has_leading_zero(first, n) {
+        return false;
     }
-    if is_number(word) {
-        return NUMBER;
-    }
-    let k = place_of(word);
-    if k < 16 { k + 1 } else { OTHER_WORD }
+    ends_at(text, next)
 }
 
-fn value_of(word: &[u8], kind: u8) -> u32
-    requires { ⌜ kind ≡ kindOf (now word) ⌝ }
-    ensures { λ r. ⌜ r ≡ valueOf (now (word .entry)) ⌝ }
+// The word that begins with a digit at `start`. No reserved word does, so that it never meets the table.
+fn number_at(text: &[u8], start: usize) -> Word
+    requires { ⌜ (start < length (now text)) × (isDigit (getD (now text) start 0) ≡ true) ⌝ }
+    ensures { λ r. ⌜ r ≡ wordFrom (now (text .entry)) start ⌝ }
 {
-    if kind == NUMBER { numeral_of(word) } else { 0 }
+    let first = text[start];
+    let digits = digits_from(text, digit_of(first), start + 1);
+    let next = digits.next;
+    let n = next - start;
+    if is_number(text, first, n, next) {
+        return Word {
+            kind: NUMBER,
+            value: value_by(digits.value, n),
+            start: start,
+            next: next,
+        };
+    }
+    Word {
+        kind: OTHER_WORD,
+        value: 0,
+        start: start,
+        next: word_end(text, next),
+    }
+}
+
+// The word that begins at `start` with a byte that is no blank and no digit, and so is no number.
+fn letters_at(text: &[u8], start: usize) -> Word
+    requires { ⌜ (start < length (now text)) × (isBlank (getD (now text) start 0) ≡ false) × (isDigit (getD (now text) start 0) ≡ false) ⌝ }
+    ensures { λ r. ⌜ r ≡ wordFrom (now (text .entry)) start ⌝ }
+{
+    let letters = letters_from(text, key_more(0, text[start]), start + 1);
+    let next = letters.next;
+    Word {
+        kind: kind_by(letters.key, next - start),
+        value: 0,
+        start: start,
+        next: next,
+    }
 }
 
 // The word that begins at the first byte from `at` on that is no blank.
@@ -260,13 +208,8 @@ pub fn word_at(text: &[u8], at: usize) -> Word
             next: start,
         };
     }
-    let next = word_end(text, start);
-    let word = &text[start..next];
-    let kind = kind_of(word);
-    Word {
-        kind: kind,
-        value: value_of(word, kind),
-        start: start,
-        next: next,
+    if is_digit(text[start]) {
+        return number_at(text, start);
     }
+    letters_at(text, start)
 }

@@ -45,13 +45,6 @@ module _ {A : Type 0} (p : A → Bool) where
       go true h = omega arith
       go false h = omega arith
 
-  -- A scan from the list's start: the run ends where the scan stops, and is the list where the scan comes to the end.
-  pub run-is : (l : List A) (i : ℕ) (d : A) → i < length l → p (getD l i d) ≡ false → i + run p (drop i l) ≡ run p l → run p l ≡ i
-  run-is l i d h e q = sym q ∙ sym (run-stop l i d h e)
-
-  pub run-all : (l : List A) (i : ℕ) → length l ≤ i → i + run p (drop i l) ≡ run p l → run p l ≡ length l
-  run-all l i h q = omega (arith, run-end l i h, run-within l)
-
   pub run-bound : (l : List A) (i : ℕ) → i ≤ length l → i + run p (drop i l) ≤ length l
   run-bound l i h = omega (arith, run-within (drop i l), length-drop i l)
 
@@ -113,7 +106,7 @@ same-eq (x ∷ u) (y ∷ w) e =
     cc
 
 -- A reserved word is the one at its place.
-place-word : (w : List ℕ) → placeOf w < 16 → w ≡ getD reserved (placeOf w) []
+pub place-word : (w : List ℕ) → placeOf w < 16 → w ≡ getD reserved (placeOf w) []
 unfolding placeOf differs reserved
 place-word w h = same-eq w (getD reserved (placeOf w) []) (not-false (sameWord w (getD reserved (placeOf w) [])) (run-stops (differs w) reserved [] h))
 
@@ -171,6 +164,12 @@ number-kind w t =
 pub number-digits : (w : List ℕ) → isNumber w ≡ true → onlyDigits w ≡ true
 unfolding isNumber
 number-digits w e = both (not (eqb (length w) 0) && not (leadingZero w)) (onlyDigits w) e .1
+
+pub number-unled : (w : List ℕ) → isNumber w ≡ true → leadingZero w ≡ false
+unfolding isNumber
+number-unled w e =
+    let t = both (not (eqb (length w) 0) && not (leadingZero w)) (onlyDigits w) e in
+    not-true _ (both (not (eqb (length w) 0)) (not (leadingZero w)) (t .0) .1)
 
 pub valued : (w : List ℕ) → kindOf w ≡ numberKind → valueOf w ≡ numeral w
 unfolding valueOf
