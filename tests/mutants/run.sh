@@ -69,7 +69,7 @@ strip() { # CRATE INTO
             /^ghost use / { next }
             /^(pub )?use / { n = $0; sub(/;.*/, "", n); sub(/.*::/, "", n); if (n ~ /^[a-z]/) next }
             /^#\[no_mangle\]/ { next }
-            /^(pub )?(extern "C" )?fn / { if ($0 !~ /}$/) skip = 1; next }
+            /^(pub(\(crate\))? )?(extern "C" )?fn / { if ($0 !~ /}$/) skip = 1; next }
             { print }' "$f" >"$2/src/$(basename "$f")"
     done
 }

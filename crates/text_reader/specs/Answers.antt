@@ -2,14 +2,14 @@
 use mathlib.Core.Path.{_≡_}
 use mathlib.Core.Bool.{Bool, true, false, cond}
 use mathlib.Core.List.{List}
-use Prim.Native.Nat.{ℕ, zero, suc, _+_, _-_, _≤_, _<_}
+use Prim.Native.Nat.{ℕ, suc, _+_, _-_, _≤_, _<_}
 use lib.Dec.{eqb, leb, ltb}
 use lib.ListN.{length}
 use Rattle.text_reader.specs.Kinds.{Port, Op, Send, Forward, Recv, Word, Read, Counted, NumberRead, PortRead, OpRead, Head, Reading}
 use Rattle.meaning.specs.Numbers.{channelLimit, taskLimit, caseLimit, valueLimit, lapLimit, depthLimit, rowLimit, wordOutOfPlace, tooDeep, rowsFull, cutShort}
 use Rattle.meaning.specs.Text.{Stmt, select, Body, Job}
 use Rattle.text_words.specs.Words.{noKind, sendKind, forwardKind, recvKind, closeKind, rangeKind, repeatKind, ifokKind, selectKind, stopKind, wordAt}
-use Rattle.text_reader.specs.Reading.{Part, got, none, bad, bind, number, closed, port, opBy, secondBy, caseBy, lastBy, casesFrom, stmtBy, bodyFrom, chanBy, chansFrom, taskEnd, taskBy, tasksFrom}
+use Rattle.text_reader.specs.Reading.{Part, got, none, bad, bind, many, number, closed, port, opBy, secondBy, caseBy, lastBy, casesFrom, stmtBy, bodyFrom, chanBy, chansFrom, taskEnd, taskBy, tasksFrom}
 
 -- THE ANSWERS
 
@@ -148,20 +148,13 @@ module _ (s : List ℕ) (channels : ℕ) where
   abbrev pub SelectTold : ℕ → ℕ → ℕ → Read → Type 0
   SelectTold depth at rows r = (k : ℕ) → rowLimit - rows < k → r ≡ told (bind (casesFrom s channels (bodyFrom k s channels depth) caseLimit at rows) (λ cs at r. closed s (select cs) at r))
 
--- The cases of a select alone, with so many left: how many there are, and the place behind the last one.
-abbrev pub countBy : (ℕ → ℕ → Part ℕ) → ℕ → ℕ → Part (Op × Body) → Part ℕ
-countBy rest at rows (got k at′ rows′) = bind (rest at′ rows′) (λ n a r. got (suc n) a r)
-countBy rest at rows none = got 0 at rows
-countBy rest at rows (bad n place) = bad n place
-
-module _ (s : List ℕ) (channels : ℕ) (sub : ℕ → ℕ → Part Body) where
-  unfoldable pub countFrom : ℕ → ℕ → ℕ → Part ℕ
-  countFrom zero at rows = countBy (λ at r. got 0 at r) at rows (caseBy s channels sub zero (wordAt s at) rows)
-  countFrom (suc left) at rows = countBy (countFrom left) at rows (caseBy s channels sub (suc left) (wordAt s at) rows)
-
 module _ (s : List ℕ) (channels : ℕ) where
+  -- The cases of a select alone, with so many left: how many there are, and the place behind the last one.
+  unfoldable pub countFrom : (ℕ → ℕ → Part Body) → ℕ → ℕ → ℕ → Part ℕ
+  countFrom sub left at rows = many (λ k n. suc n) (λ left at rows. caseBy s channels sub left (wordAt s at) rows) (λ at rows. got 0 at rows) left at rows
+
   abbrev pub CasesTold : ℕ → ℕ → ℕ → Counted → Type 0
-  CasesTold depth at rows r = (k : ℕ) → rowLimit - rows < k → r ≡ counted self 0 (countFrom s channels (bodyFrom k s channels depth) caseLimit at rows)
+  CasesTold depth at rows r = (k : ℕ) → rowLimit - rows < k → r ≡ counted self 0 (countFrom (bodyFrom k s channels depth) caseLimit at rows)
 
 -- A JOB
 

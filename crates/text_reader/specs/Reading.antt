@@ -24,6 +24,20 @@ bind (got x at rows) f = f x at rows
 bind none f = none
 bind (bad n place) f = bad n place
 
+-- PARTS IN A ROW
+
+-- One part and the row of those behind it, joined; where there is none, what ends the row.
+abbrev pub ahead : {A B : Type 0} → (A → B → B) → (ℕ → ℕ → Part B) → Part B → Part A → Part B
+ahead join rest end (got x at rows) = bind (rest at rows) (λ b a r. got (join x b) a r)
+ahead join rest end none = end
+ahead join rest end (bad n place) = bad n place
+
+-- A row of at most so many: `one` reads the next part, told how many are left, and refuses one too many itself; `end` reads what
+-- ends the row.
+unfoldable pub many : {A B : Type 0} → (A → B → B) → (ℕ → ℕ → ℕ → Part A) → (ℕ → ℕ → Part B) → ℕ → ℕ → ℕ → Part B
+many join one end zero at rows = ahead join end (end at rows) (one zero at rows)
+many join one end (suc left) at rows = ahead join (many join one end left) (end at rows) (one (suc left) at rows)
+
 -- s is the whole text, with so many channels declared.
 module _ (s : List ℕ) where
   -- A word that can't stand here: 3 at its first byte, or 9 at the text's length where the text has stopped.
@@ -108,14 +122,9 @@ module _ (s : List ℕ) (channels : ℕ) (sub : ℕ → ℕ → Part Body) where
       cond (eqb (w .kind) defaultKind) (λ rows. bind (sub (w .next) rows) (λ b at r. got (default b) at r))
       (λ rows. got nomore at rows)
 
-  abbrev pub casesBy : (ℕ → ℕ → Part Cases) → ℕ → ℕ → Part (Op × Body) → Part Cases
-  casesBy rest at rows (got k at′ rows′) = bind (rest at′ rows′) (λ cs a r. got (case (k .0) (k .1) cs) a r)
-  casesBy rest at rows none = lastBy at (wordAt s at) rows
-  casesBy rest at rows (bad n place) = bad n place
-
   unfoldable pub casesFrom : ℕ → ℕ → ℕ → Part Cases
-  casesFrom zero at rows = casesBy (λ at r. got nomore at r) at rows (caseBy zero (wordAt s at) rows)
-  casesFrom (suc left) at rows = casesBy (casesFrom left) at rows (caseBy (suc left) (wordAt s at) rows)
+  casesFrom left at rows =
+      many (λ k cs. case (k .0) (k .1) cs) (λ left at rows. caseBy left (wordAt s at) rows) (λ at rows. lastBy at (wordAt s at) rows) left at rows
 
   abbrev pub isOpWord : Word → Bool
   isOpWord w = cond (eqb (w .kind) sendKind) true (cond (eqb (w .kind) forwardKind) true (eqb (w .kind) recvKind))
@@ -134,14 +143,10 @@ module _ (s : List ℕ) (channels : ℕ) (sub : ℕ → ℕ → Part Body) where
 
 -- BODIES. Each statement needs a row and there are at most 1,024, so that one step more than rows are left is always enough.
 
-abbrev pub bodyBy : (ℕ → ℕ → Part Body) → ℕ → ℕ → Part Stmt → Part Body
-bodyBy rest at rows (got x at′ rows′) = bind (rest at′ rows′) (λ b a r. got (x ▸ b) a r)
-bodyBy rest at rows none = got empty at rows
-bodyBy rest at rows (bad n place) = bad n place
-
 unfoldable pub bodyFrom : ℕ → List ℕ → ℕ → ℕ → ℕ → ℕ → Part Body
 bodyFrom zero s channels depth at rows = bad 0 0
-bodyFrom (suc steps) s channels depth at rows = bodyBy (bodyFrom steps s channels depth) at rows (stmtBy s channels (bodyFrom steps s channels (depth + 1)) depth (wordAt s at) rows)
+bodyFrom (suc steps) s channels depth at rows =
+    ahead _▸_ (bodyFrom steps s channels depth) (got empty at rows) (stmtBy s channels (bodyFrom steps s channels (depth + 1)) depth (wordAt s at) rows)
 
 abbrev pub body : List ℕ → ℕ → ℕ → ℕ → Part Body
 body s channels at rows = bodyFrom (suc rowLimit) s channels 0 at rows
@@ -156,14 +161,8 @@ module _ (s : List ℕ) where
       (cond (eqb left 0) (λ rows. bad oneTooMany (w .start)) (λ rows. number s capacityLimit (w .next) rows))
       (λ rows. none)
 
-  abbrev pub chansBy : (ℕ → ℕ → Part (List ℕ)) → ℕ → ℕ → Part ℕ → Part (List ℕ)
-  chansBy rest at rows (got n at′ rows′) = bind (rest at′ rows′) (λ ns a r. got (n ∷ ns) a r)
-  chansBy rest at rows none = got [] at rows
-  chansBy rest at rows (bad n place) = bad n place
-
   unfoldable pub chansFrom : ℕ → ℕ → ℕ → Part (List ℕ)
-  chansFrom zero at rows = chansBy (λ at r. got [] at r) at rows (chanBy zero (wordAt s at) rows)
-  chansFrom (suc left) at rows = chansBy (chansFrom left) at rows (chanBy (suc left) (wordAt s at) rows)
+  chansFrom left at rows = many _∷_ (λ left at rows. chanBy left (wordAt s at) rows) (λ at rows. got [] at rows) left at rows
 
   -- The `end` of a task, which needs a row.
   unfoldable pub taskEnd : Body → Word → ℕ → Part Body
@@ -176,14 +175,8 @@ module _ (s : List ℕ) where
       (cond (eqb left 0) (λ rows. bad oneTooMany (w .start)) (λ rows. bind (body s channels (w .next) rows) (λ b at r. taskEnd b (wordAt s at) r)))
       (λ rows. cond (eqb (w .kind) noKind) none (bad wordOutOfPlace (w .start)))
 
-  abbrev pub tasksBy : (ℕ → ℕ → Part (List Body)) → ℕ → ℕ → Part Body → Part (List Body)
-  tasksBy rest at rows (got b at′ rows′) = bind (rest at′ rows′) (λ bs a r. got (b ∷ bs) a r)
-  tasksBy rest at rows none = got [] at rows
-  tasksBy rest at rows (bad n place) = bad n place
-
   unfoldable pub tasksFrom : ℕ → ℕ → ℕ → ℕ → Part (List Body)
-  tasksFrom channels zero at rows = tasksBy (λ at r. got [] at r) at rows (taskBy channels zero (wordAt s at) rows)
-  tasksFrom channels (suc left) at rows = tasksBy (tasksFrom channels left) at rows (taskBy channels (suc left) (wordAt s at) rows)
+  tasksFrom channels left at rows = many _∷_ (λ left at rows. taskBy channels left (wordAt s at) rows) (λ at rows. got [] at rows) left at rows
 
   -- 10: no task.
   abbrev pub jobOf : List ℕ → List Body → ℕ → ℕ → Part Job

@@ -2,6 +2,7 @@
 pub mod Bodies
 pub mod Heads
 pub mod Jobs
+pub mod Many
 pub mod Parts
 pub mod Selects
 pub mod Sizes

@@ -18,7 +18,7 @@ use Rattle.meaning.specs.Bytes.{fieldsOf, statementOf, rowBytes, firstBytes, im
 use Rattle.image_rows.specs.Rows.{countsIn, countsOf}
 use Rattle.image_check.specs.Check.{inTable, owedAfter, portGood, opGood, isCaseRow, owedAt, isTarget, otherwiseGood, casesFollow, capacityBad, statementGood, rowGood, rowBad, firstRowBad, firstOf, refusedAt, bodyChecked, countsGood, checked}
 use Rattle.text_words.specs.Words.{wordAt, firstNotAllowed, kindOf, valueOf, startAt, nextAt, bytesAt, numeral, decimal, isNumber, onlyDigits, leadingZero, placeOf, differs, sameWord, reserved, run, inWord, isAllowed, isLetter, isDigit, isBlank}
-use Rattle.text_reader.specs.Reading.{Part, got, none, bad, bind, numberBy, closedBy, portBy, opBy, secondBy, caseOp, caseBy, lastBy, casesFrom, stmtBy, bodyFrom, chanBy, chansFrom, taskEnd, taskBy, tasksFrom, job, reading}
+use Rattle.text_reader.specs.Reading.{Part, got, none, bad, bind, many, numberBy, closedBy, portBy, opBy, secondBy, caseOp, caseBy, lastBy, casesFrom, stmtBy, bodyFrom, chanBy, chansFrom, taskEnd, taskBy, tasksFrom, job, reading}
 use Rattle.translate.specs.declared.Translated.the-variants.{Refused}
 use Rattle.translate.specs.Translated.{translatedTo, translated, writtenTo, written}
 
@@ -132,7 +132,7 @@ due : Example → Found
 due e = record { answer = e .answer; check = Good; ofText = e .events; ofImage = e .events }
 
 table-holds : map found table ≡ map due table
-unfolding found foundBy due translated translatedTo reading job tasksFrom taskBy taskEnd chansFrom chanBy bodyFrom stmtBy casesFrom lastBy caseBy caseOp secondBy opBy portBy closedBy numberBy bind wordAt firstNotAllowed kindOf valueOf startAt nextAt bytesAt numeral decimal isNumber onlyDigits leadingZero placeOf differs sameWord reserved run inWord isAllowed isLetter isDigit isBlank numbers isOn receivesOn sendsOn payload without wakeAll sendOn receiveOn closeOn choose casesOf firstCase waiterBy addIf waiterAt waitersIn waiters sendTo receiveFrom attempt ready m.close act turnAs turnOf turnIf m.turn runs fresh enter textRepeat textCases textDefault textStmt textItem textLook textStart imageCase imageCases imageDefault imageRepeat imageStatement imageLook imageStart caseCount sizeB entry caseRows defaultRow rowsB rowsT firstRows fieldsOf statementOf rowBytes firstBytes imageBytes jobImage trailerOf rowCount channelCount taskCount distance bodyOf fieldsOfRow rowsIn capacityIn firstRowIn rowsOf capacitiesOf firstRowsOf b.tabulate startOf checked bodyChecked countsGood refusedAt firstOf rowBad rowGood statementGood firstRowBad capacityBad casesFollow otherwiseGood isTarget isCaseRow opGood portGood owedAt owedAfter inTable countsOf countsIn markOf versionOf
+unfolding found foundBy due translated translatedTo reading job tasksFrom taskBy taskEnd chansFrom chanBy bodyFrom stmtBy casesFrom lastBy caseBy caseOp secondBy opBy portBy closedBy numberBy many bind wordAt firstNotAllowed kindOf valueOf startAt nextAt bytesAt numeral decimal isNumber onlyDigits leadingZero placeOf differs sameWord reserved run inWord isAllowed isLetter isDigit isBlank numbers isOn receivesOn sendsOn payload without wakeAll sendOn receiveOn closeOn choose casesOf firstCase waiterBy addIf waiterAt waitersIn waiters sendTo receiveFrom attempt ready m.close act turnAs turnOf turnIf m.turn runs fresh enter textRepeat textCases textDefault textStmt textItem textLook textStart imageCase imageCases imageDefault imageRepeat imageStatement imageLook imageStart caseCount sizeB entry caseRows defaultRow rowsB rowsT firstRows fieldsOf statementOf rowBytes firstBytes imageBytes jobImage trailerOf rowCount channelCount taskCount distance bodyOf fieldsOfRow rowsIn capacityIn firstRowIn rowsOf capacitiesOf firstRowsOf b.tabulate startOf checked bodyChecked countsGood refusedAt firstOf rowBad rowGood statementGood firstRowBad capacityBad casesFollow otherwiseGood isTarget isCaseRow opGood portGood owedAt owedAfter inTable countsOf countsIn markOf versionOf
 table-holds = refl
 
 -- A translator that writes one fixed image is none: the images of P7 and P8 are of one length, and differ in their first byte.
@@ -140,5 +140,5 @@ abbrev firstByte : List ℕ → ℕ
 firstByte text = getD (written text (0 ∷ 0 ∷ 0 ∷ 0 ∷ 0 ∷ 0 ∷ 0 ∷ 0 ∷ 0 ∷ 0 ∷ 0 ∷ 0 ∷ 0 ∷ 0 ∷ 0 ∷ 0 ∷ 0 ∷ 0 ∷ 0 ∷ 0 ∷ 0 ∷ 0 ∷ 0 ∷ 0 ∷ 0 ∷ 0 ∷ [])) 0 0
 
 no-fixed-image : firstByte (116 ∷ 97 ∷ 115 ∷ 107 ∷ 32 ∷ 114 ∷ 101 ∷ 99 ∷ 118 ∷ 32 ∷ 110 ∷ 105 ∷ 108 ∷ 32 ∷ 101 ∷ 110 ∷ 100 ∷ []) ≡ firstByte (116 ∷ 97 ∷ 115 ∷ 107 ∷ 32 ∷ 99 ∷ 108 ∷ 111 ∷ 115 ∷ 101 ∷ 32 ∷ 110 ∷ 105 ∷ 108 ∷ 32 ∷ 101 ∷ 110 ∷ 100 ∷ []) → ⊥
-unfolding written writtenTo reading job tasksFrom taskBy taskEnd chansFrom chanBy bodyFrom stmtBy casesFrom lastBy caseBy caseOp secondBy opBy portBy closedBy numberBy bind wordAt firstNotAllowed kindOf valueOf startAt nextAt bytesAt numeral decimal isNumber onlyDigits leadingZero placeOf differs sameWord reserved run inWord isAllowed isLetter isDigit isBlank caseCount sizeB entry caseRows defaultRow rowsB rowsT firstRows fieldsOf rowBytes firstBytes imageBytes jobImage
+unfolding written writtenTo reading job tasksFrom taskBy taskEnd chansFrom chanBy bodyFrom stmtBy casesFrom lastBy caseBy caseOp secondBy opBy portBy closedBy numberBy many bind wordAt firstNotAllowed kindOf valueOf startAt nextAt bytesAt numeral decimal isNumber onlyDigits leadingZero placeOf differs sameWord reserved run inWord isAllowed isLetter isDigit isBlank caseCount sizeB entry caseRows defaultRow rowsB rowsT firstRows fieldsOf rowBytes firstBytes imageBytes jobImage
 no-fixed-image e = let z : _≡_ {A = ℕ} 3 4 = e in omega arith

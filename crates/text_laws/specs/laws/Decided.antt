@@ -5,25 +5,16 @@ use mathlib.Core.List.{List, [], _∷_}
 use Prim.Native.Nat.{ℕ, zero, suc, _+_}
 use lib.Dec.{eqb, leb, ltb}
 use lib.ListN.{length}
-use Rattle.text_laws.specs.Kinds.{Op, Word}
+use Rattle.text_laws.specs.Kinds.{Word}
 use Rattle.meaning.specs.Numbers.{channelLimit, taskLimit, caseLimit, valueLimit, lapLimit, depthLimit, rowLimit}
-use Rattle.meaning.specs.Text.{Stmt, range, repeat, ifok, select, Body, empty, Cases, nomore}
+use Rattle.meaning.specs.Text.{range, repeat, ifok, select, Body, empty}
 use Rattle.meaning.specs.laws.Tests.{cond-all}
 use Rattle.text_words.specs.Words.{noKind, sendKind, forwardKind, recvKind, closeKind, rangeKind, repeatKind, ifokKind, elseKind, selectKind, defaultKind, stopKind, endKind, nilKind, numberKind, wordAt}
-use Rattle.text_reader.specs.Reading.{Part, got, none, bad, bind, misplaced, numberBy, number, closedBy, closed, portBy, port, opBy, withRow, asBlock, secondBy, caseBy, lastBy, casesBy, casesFrom, stmtBy, bodyBy, bodyFrom, chanBy, chansBy, chansFrom, taskBy, tasksBy, tasksFrom, jobOf, job, reading}
+use Rattle.text_reader.specs.Reading.{Part, none, misplaced, numberBy, number, closedBy, closed, portBy, port, opBy, withRow, asBlock, secondBy, lastBy, casesFrom, stmtBy, bodyFrom, chansFrom, tasksFrom, jobOf, job, reading}
 use Rattle.text_reader.specs.Answers.{isOp, isStatement}
+use Rattle.text_reader.specs.laws.Parts.{Sure, bind-sure}
+use Rattle.text_reader.specs.laws.Many.{ahead-sure, many-sure}
 use Rattle.text_laws.specs.laws.Walk.{reading-ways}
-
-abbrev pub Sure : {A : Type 0} → Part A → Type 0
-Sure (got x at rows) = Unit {0}
-Sure none = ⊥
-Sure (bad n place) = Unit {0}
-
-bind-sure : {A B : Type 0} (p : Part A) (f : A → ℕ → ℕ → Part B) → Sure p → ((x : A) (at r : ℕ) → Sure (f x at r)) → Sure (bind p f)
-unfolding bind
-bind-sure (got x at rows) f h k = k x at rows
-bind-sure none f h k = h
-bind-sure (bad n place) f h k = tt
 
 -- A choice between two ways that wait for the rows.
 ways-sure : {A : Type 0} (b : Bool) (f g : ℕ → Part A) (rows : ℕ) → (b ≡ true → Sure (f rows)) → (b ≡ false → Sure (g rows)) → Sure (cond b f g rows)
@@ -79,15 +70,9 @@ module _ (s : List ℕ) where
       unfolding lastBy
       last-sure at w rows = ways-sure (eqb (w .kind) defaultKind) _ _ rows (λ _. bind-sure (sub (w .next) rows) _ (sub-sure (w .next) rows) (λ _ _ _. tt)) (λ _. tt)
 
-      cases-by-sure : (rest : ℕ → ℕ → Part Cases) (at rows : ℕ) (p : Part (Op × Body)) → ((a r : ℕ) → Sure (rest a r)) → Sure (casesBy s channels sub rest at rows p)
-      cases-by-sure rest at rows (got k a r) f = bind-sure (rest a r) _ (f a r) (λ _ _ _. tt)
-      cases-by-sure rest at rows none f = last-sure at (wordAt s at) rows
-      cases-by-sure rest at rows (bad n place) f = tt
-
       cases-sure : (left at rows : ℕ) → Sure (casesFrom s channels sub left at rows)
       unfolding casesFrom
-      cases-sure zero at rows = cases-by-sure (λ at r. got nomore at r) at rows (caseBy s channels sub zero (wordAt s at) rows) (λ _ _. tt)
-      cases-sure (suc left) at rows = cases-by-sure (casesFrom s channels sub left) at rows (caseBy s channels sub (suc left) (wordAt s at) rows) (λ a r. cases-sure left a r)
+      cases-sure = many-sure _ _ _ (λ at rows. last-sure at (wordAt s at) rows)
 
       -- A word that begins a statement begins one that is there, or is refused.
       pub statement-sure : (depth : ℕ) (w : Word) (rows : ℕ) → isStatement (w .kind) ≡ true → Sure (stmtBy s channels sub depth w rows)
@@ -105,35 +90,20 @@ module _ (s : List ℕ) where
           absurd (true≢false (sym (rw (o, c, p, g, r, i, l) at e)))
 
   -- A body ends where no statement begins.
-  body-by-sure : (rest : ℕ → ℕ → Part Body) (at rows : ℕ) (p : Part Stmt) → ((a r : ℕ) → Sure (rest a r)) → Sure (bodyBy rest at rows p)
-  body-by-sure rest at rows (got x a r) f = bind-sure (rest a r) _ (f a r) (λ _ _ _. tt)
-  body-by-sure rest at rows none f = tt
-  body-by-sure rest at rows (bad n place) f = tt
-
   pub body-sure : (k channels depth at rows : ℕ) → Sure (bodyFrom k s channels depth at rows)
   unfolding bodyFrom
   body-sure zero channels depth at rows = tt
-  body-sure (suc k) channels depth at rows = body-by-sure (bodyFrom k s channels depth) at rows (stmtBy s channels (bodyFrom k s channels (depth + 1)) depth (wordAt s at) rows) (λ a r. body-sure k channels depth a r)
-
-  chans-by-sure : (rest : ℕ → ℕ → Part (List ℕ)) (at rows : ℕ) (p : Part ℕ) → ((a r : ℕ) → Sure (rest a r)) → Sure (chansBy s rest at rows p)
-  chans-by-sure rest at rows (got n a r) f = bind-sure (rest a r) _ (f a r) (λ _ _ _. tt)
-  chans-by-sure rest at rows none f = tt
-  chans-by-sure rest at rows (bad n place) f = tt
+  body-sure (suc k) channels depth at rows =
+      let deeper = bodyFrom k s channels (depth + 1) in
+      ahead-sure _ (bodyFrom k s channels depth) _ (stmtBy s channels deeper depth (wordAt s at) rows) (body-sure k channels depth) tt
 
   chans-sure : (left at rows : ℕ) → Sure (chansFrom s left at rows)
   unfolding chansFrom
-  chans-sure zero at rows = chans-by-sure (λ a r. got [] a r) at rows (chanBy s zero (wordAt s at) rows) (λ _ _. tt)
-  chans-sure (suc left) at rows = chans-by-sure (chansFrom s left) at rows (chanBy s (suc left) (wordAt s at) rows) (λ a r. chans-sure left a r)
-
-  tasks-by-sure : (rest : ℕ → ℕ → Part (List Body)) (at rows : ℕ) (p : Part Body) → ((a r : ℕ) → Sure (rest a r)) → Sure (tasksBy s rest at rows p)
-  tasks-by-sure rest at rows (got b a r) f = bind-sure (rest a r) _ (f a r) (λ _ _ _. tt)
-  tasks-by-sure rest at rows none f = tt
-  tasks-by-sure rest at rows (bad n place) f = tt
+  chans-sure = many-sure _ _ _ (λ at rows. tt)
 
   tasks-sure : (channels left at rows : ℕ) → Sure (tasksFrom s channels left at rows)
   unfolding tasksFrom
-  tasks-sure channels zero at rows = tasks-by-sure (λ a r. got [] a r) at rows (taskBy s channels zero (wordAt s at) rows) (λ _ _. tt)
-  tasks-sure channels (suc left) at rows = tasks-by-sure (tasksFrom s channels left) at rows (taskBy s channels (suc left) (wordAt s at) rows) (λ a r. tasks-sure channels left a r)
+  tasks-sure channels = many-sure _ _ _ (λ at rows. tt)
 
   job-of-sure : (caps : List ℕ) (bs : List Body) (at rows : ℕ) → Sure (jobOf s caps bs at rows)
   job-of-sure caps [] at rows = tt

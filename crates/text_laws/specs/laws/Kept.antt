@@ -10,12 +10,13 @@ use Rattle.text_laws.specs.Kinds.{Port, Op}
 use Rattle.meaning.specs.Numbers.{capacityLimit, rowLimit, wordOutOfPlace, numberDue, numberOverRange, oneTooMany, tooDeep, rowsFull, cutShort, noTaskGiven}
 use Rattle.meaning.specs.Text.{Stmt, Body, Cases, Job}
 use Rattle.meaning.specs.Layout.{caseCount, sizeS, sizeB, sizeC, rowsT}
-use Rattle.image_check.specs.laws.Sound.{PortSound}
+use Rattle.image_check.specs.Sound.{PortSound}
 use Rattle.meaning_laws.specs.Lists.{All}
 use Rattle.image_laws.specs.Proper.{ProperOp, ProperS, ProperB, ProperC, Proper}
 use Rattle.image_laws.specs.laws.Rows.{sizeT}
 use Rattle.text_words.specs.Words.{noKind, chanKind, taskKind, sendKind, forwardKind, recvKind, closeKind, rangeKind, repeatKind, ifokKind, selectKind, caseKind, stopKind, endKind, numberKind, wordAt}
-use Rattle.text_reader.specs.Reading.{Part, got, none, bad}
+use Rattle.text_reader.specs.Reading.{Part}
+use Rattle.text_reader.specs.laws.Parts.{Holds}
 
 -- PARTS THAT WERE READ, in a text with so many channels declared, inside so many blocks, with so many rows needed ahead of them: each
 -- is within the limits, and the rows r needed behind it are those and its own.
@@ -121,9 +122,7 @@ module _ (s : List ℕ) (Edge : ℕ → Type 0) where
 
   -- What a part keeps to: P of what was got and of the rows needed so far, and the table where it is a refusal.
   abbrev pub Kept : {A : Type 0} → (A → ℕ → Type 0) → Part A → Type 0
-  Kept P (got x at rows) = Edge at × P x rows
-  Kept P none = Unit {0}
-  Kept P (bad n place) = Refusal n place
+  Kept P = Holds (λ x at rows. Edge at × P x rows) Refusal
 
 -- Where it does not matter from which places words are read.
 abbrev pub Anywhere : ℕ → Type 0

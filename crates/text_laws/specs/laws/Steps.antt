@@ -6,12 +6,13 @@ use Prim.Native.Nat.{ℕ, zero, suc, _+_, _-_, _≤_, _<_}
 use native.Mathlib.Omega.{arith}
 use borrow.Author.Tests.{ltb-true}
 use lib.Dec.{eqb, ltb}
-use Rattle.text_laws.specs.Kinds.{Op, Word}
+use Rattle.text_laws.specs.Kinds.{Word}
 use Rattle.meaning.specs.Numbers.{caseLimit, lapLimit, depthLimit, rowLimit}
-use Rattle.meaning.specs.Text.{Stmt, Body, Cases, nomore}
+use Rattle.meaning.specs.Text.{Stmt, Body}
 use Rattle.image_laws.specs.laws.Rows.{positive}
 use Rattle.text_words.specs.Words.{elseKind, caseKind, defaultKind, closeKind, stopKind, rangeKind, repeatKind, ifokKind, selectKind, wordAt}
-use Rattle.text_reader.specs.Reading.{Part, got, none, bad, bind, number, port, withRow, asBlock, secondBy, caseOp, caseBy, lastBy, casesBy, casesFrom, isOpWord, stmtBy, bodyBy, bodyFrom, reading}
+use Rattle.text_reader.specs.Reading.{Part, got, none, bad, bind, number, port, withRow, asBlock, secondBy, caseOp, caseBy, lastBy, casesFrom, isOpWord, stmtBy, bodyFrom, reading}
+use Rattle.text_reader.specs.laws.Many.{ahead-same, many-by}
 use Rattle.text_laws.specs.laws.Kept.{NumberRead, PortRead, OpRead, StmtRead, BodyRead, CaseRead, Kept, Anywhere}
 use Rattle.text_laws.specs.laws.Walk.{number-kept, port-kept, case-op-kept, case-kept, body-kept, deeper-kept, statement-kept}
 use Rattle.text_laws.specs.laws.Places.{reading-refused}
@@ -63,22 +64,14 @@ module _ (s : List ℕ) where
     unfolding lastBy
     last-same at r l m = choice (eqb (wordAt s at .kind) defaultKind) r _ _ _ _ (λ _. sub-same (wordAt s at .next) r _ l m) (λ _. refl)
 
-    cases-by-same : (left at r : ℕ) (rest rest′ : ℕ → ℕ → Part Cases) (p : Part (Op × Body)) → rows < r → r ≤ rowLimit → Kept s Anywhere (CaseRead channels (suc depth) r left) p
-        → ((a t : ℕ) → rows < t → t ≤ rowLimit → rest a t ≡ rest′ a t) → casesBy s channels sub rest at r p ≡ casesBy s channels sub′ rest′ at r p
-    cases-by-same left at r rest rest′ (got k a t) l m h f = bind-first (rest a t) (rest′ a t) _ (f a t (omega (arith, h .1 .sized)) (h .1 .room))
-    cases-by-same left at r rest rest′ none l m h f = last-same at r l m
-    cases-by-same left at r rest rest′ (bad n place) l m h f = refl
-
     cases-same : (left at r : ℕ) → rows < r → r ≤ rowLimit → casesFrom s channels sub left at r ≡ casesFrom s channels sub′ left at r
     unfolding casesFrom
-    cases-same zero at r l m =
-        let rest : ℕ → ℕ → Part Cases = λ a t. got nomore a t in
-        cases-by-same zero at r rest rest (caseBy s channels sub zero (wordAt s at) r) l m (case-kept s Anywhere (λ _. tt) channels depth rows sub good zero at r tt l) (λ _ _ _ _. refl)
-        ∙ ap (casesBy s channels sub′ rest at r) (case-same zero at r l)
-    cases-same (suc left) at r l m =
-        cases-by-same (suc left) at r (casesFrom s channels sub left) (casesFrom s channels sub′ left) (caseBy s channels sub (suc left) (wordAt s at) r) l m
-        (case-kept s Anywhere (λ _. tt) channels depth rows sub good (suc left) at r tt l) (λ a t. cases-same left a t)
-        ∙ ap (casesBy s channels sub′ (casesFrom s channels sub′ left) at r) (case-same (suc left) at r l)
+    cases-same =
+        many-by _ _ _ _ _ _ (λ left at r p q. rows < r → r ≤ rowLimit → p ≡ q) last-same
+        (λ rest rest′ left at r f l m.
+        ahead-same _ (λ k a t. Anywhere a × CaseRead channels (suc depth) r left k t) _ rest rest′ _ _ (caseBy s channels sub left (wordAt s at) r) _
+        (case-kept s Anywhere (λ _. tt) channels depth rows sub good left at r tt l)
+        (λ k a t (_, h). f a t (omega (arith, h .sized)) (h .room)) (last-same at r l m) (case-same left at r l))
 
     stmt-same : (at : ℕ) → stmtBy s channels sub depth (wordAt s at) rows ≡ stmtBy s channels sub′ depth (wordAt s at) rows
     unfolding stmtBy
@@ -105,21 +98,16 @@ module _ (s : List ℕ) where
         (λ _. block-same depth w rows _ _ (λ h. bind-first (casesFrom s channels sub caseLimit next more) (casesFrom s channels sub′ caseLimit next more) _ (cases-same caseLimit next more (omega arith) (omega arith))))
         (λ _. refl)))))))
 
-  body-by-same : (channels depth at rows : ℕ) (rest rest′ : ℕ → ℕ → Part Body) (p : Part Stmt) → Kept s Anywhere (StmtRead channels depth rows) p → ((a r : ℕ) → rows < r → r ≤ rowLimit → rest a r ≡ rest′ a r)
-      → bodyBy rest at rows p ≡ bodyBy rest′ at rows p
-  body-by-same channels depth at rows rest rest′ (got x a r) h f = bind-first (rest a r) (rest′ a r) _ (f a r (omega (arith, h .1 .sized, positive x)) (h .1 .room))
-  body-by-same channels depth at rows rest rest′ none h f = refl
-  body-by-same channels depth at rows rest rest′ (bad n place) h f = refl
-
   pub steps-same : (k k′ channels depth at rows : ℕ) → rows ≤ rowLimit → rowLimit - rows < k → rowLimit - rows < k′ → bodyFrom k s channels depth at rows ≡ bodyFrom k′ s channels depth at rows
   unfolding bodyFrom
   steps-same zero k′ channels depth at rows l h h′ = absurd (omega arith)
   steps-same (suc k) zero channels depth at rows l h h′ = absurd (omega arith)
   steps-same (suc k) (suc k′) channels depth at rows l h h′ =
       let deeper = bodyFrom k s channels (depth + 1) in
-      body-by-same channels depth at rows (bodyFrom k s channels depth) (bodyFrom k′ s channels depth) (stmtBy s channels deeper depth (wordAt s at) rows)
-      (statement-kept s Anywhere (λ _. tt) k channels depth at rows tt h) (λ a r m n. steps-same k k′ channels depth a r n (omega arith) (omega arith))
-      ∙ ap (bodyBy (bodyFrom k′ s channels depth) at rows)
+      ahead-same _ (λ x a r. Anywhere a × StmtRead channels depth rows x r) _ (bodyFrom k s channels depth) (bodyFrom k′ s channels depth) _ _
+      (stmtBy s channels deeper depth (wordAt s at) rows) _
+      (statement-kept s Anywhere (λ _. tt) k channels depth at rows tt h)
+      (λ x a r (_, q). let m : rows < r = omega (arith, q .sized, positive x) in steps-same k k′ channels depth a r (q .room) (omega arith) (omega arith)) refl
       (stmt-same channels depth rows deeper (bodyFrom k′ s channels (depth + 1)) (deeper-kept s Anywhere (λ _. tt) k channels depth rows h)
       (λ a r m n. steps-same k k′ channels (depth + 1) a r n (omega arith) (omega arith)) at)
 

@@ -11,21 +11,20 @@ use lib.Dec.{eqb, leb, ltb}
 use lib.ListN.{length}
 use Rattle.text_laws.specs.Kinds.{Op, Place, Nowhere, At}
 use Rattle.meaning.specs.Numbers.{textLimit, channelLimit, capacityLimit, taskLimit, caseLimit, valueLimit, lapLimit, depthLimit, rowLimit, textTooLong, byteNotAllowed, wordOutOfPlace, numberDue, numberOverRange, oneTooMany, tooDeep, rowsFull, cutShort, noTaskGiven}
-use Rattle.meaning.specs.Text.{Stmt, range, repeat, ifok, select, Body, empty, Cases, nomore, Job}
+use Rattle.meaning.specs.Text.{Stmt, range, repeat, ifok, select, Body, empty, Cases, Job}
 use Rattle.meaning.specs.Layout.{caseCount, sizeS, sizeB, sizeC, rowsT}
 use Rattle.meaning.specs.laws.Tests.{cond-all}
 use Rattle.image_laws.specs.Proper.{Proper}
 use Rattle.image_laws.specs.laws.Rows.{sizeT, rowsT-size, positive}
 use Rattle.text_words.specs.Words.{noKind, chanKind, taskKind, sendKind, forwardKind, recvKind, closeKind, rangeKind, repeatKind, ifokKind, elseKind, selectKind, caseKind, defaultKind, stopKind, endKind, nilKind, numberKind, wordAt, firstNotAllowed}
-use Rattle.text_reader.specs.Reading.{Part, got, none, bad, bind, misplaced, numberBy, number, closedBy, closed, portBy, port, opBy, withRow, asBlock, secondBy, orMisplaced, caseOp, caseBy, lastBy, casesBy, casesFrom, isOpWord, stmtBy, bodyBy, bodyFrom, body, chanBy, chansBy, chansFrom, taskEnd, taskBy, tasksBy, tasksFrom, jobOf, job, allowedBy, reading}
+use Rattle.text_reader.specs.Reading.{Part, got, none, bad, bind, misplaced, numberBy, number, closedBy, closed, portBy, port, opBy, withRow, asBlock, secondBy, orMisplaced, caseOp, caseBy, lastBy, casesFrom, isOpWord, stmtBy, bodyFrom, body, chanBy, chansFrom, taskEnd, taskBy, tasksFrom, jobOf, job, allowedBy, reading}
+use Rattle.text_reader.specs.laws.Parts.{bind-holds}
+use Rattle.text_reader.specs.laws.Many.{ahead-holds, many-holds}
 use Rattle.text_laws.specs.laws.Kept.{StmtRead, BodyRead, CaseRead, CasesRead, TaskRead, TasksRead, ChanRead, ChansRead, JobRead, NumberRead, PortRead, OpRead, names, Refusal, Kept}
 
 module _ (s : List ℕ) (Edge : ℕ → Type 0) (behind : (at : ℕ) → Edge (wordAt s at .next)) where
   bind-kept : {A B : Type 0} (P : A → ℕ → Type 0) (Q : B → ℕ → Type 0) (p : Part A) (f : A → ℕ → ℕ → Part B) → Kept s Edge P p → ((x : A) (at r : ℕ) → Edge at → P x r → Kept s Edge Q (f x at r)) → Kept s Edge Q (bind p f)
-  unfolding bind
-  bind-kept P Q (got x at rows) f h k = k x at rows (h .0) (h .1)
-  bind-kept P Q none f h k = tt
-  bind-kept P Q (bad n place) f h k = h
+  bind-kept P Q p f h k = bind-holds (λ x at r. Edge at × P x r) (λ x at r. Edge at × Q x r) (Refusal s Edge) p f h (λ x at r q. k x at r (q .0) (q .1))
 
   -- WORDS
 
@@ -156,20 +155,16 @@ module _ (s : List ℕ) (Edge : ℕ → Type 0) (behind : (at : ℕ) → Edge (w
         (λ b a t k z. (k, record { fewer = n; proper = z .proper; sized = omega (arith, z .sized); room = z .room })))
         (λ _. (i, record { fewer = n; proper = tt; sized = omega arith; room = m }))
 
-    cases-by : (left at r : ℕ) (rest : ℕ → ℕ → Part Cases) (p : Part (Op × Body)) → Edge at → rows < r → r ≤ rowLimit → Kept s Edge (CaseRead channels (suc depth) r left) p
-        → (1 ≤ left → (a t : ℕ) → Edge a → rows < t → t ≤ rowLimit → Kept s Edge (CasesRead channels (suc depth) t left) (rest a t)) → Kept s Edge (CasesRead channels (suc depth) r (suc left)) (casesBy s channels sub rest at r p)
-    unfolding caseCount sizeS sizeB sizeC
-    cases-by left at r rest (got k a t) i l m h f =
-        let one = h .1 in
-        bind-kept (CasesRead channels (suc depth) t left) (CasesRead channels (suc depth) r (suc left)) (rest a t) _ (f (one .some) a t (h .0) (omega (arith, one .sized)) (one .room))
-        (λ cs c u e z. (e, record { fewer = omega (arith, z .fewer); proper = (one .op, one .proper, z .proper); sized = omega (arith, one .sized, z .sized); room = z .room }))
-    cases-by left at r rest none i l m h f = last-kept (suc left) at r i (omega arith) l m
-    cases-by left at r rest (bad n place) i l m h f = h
-
     pub cases-kept : (left at r : ℕ) → Edge at → rows < r → r ≤ rowLimit → Kept s Edge (CasesRead channels (suc depth) r (suc left)) (casesFrom s channels sub left at r)
-    unfolding casesFrom
-    cases-kept zero at r i l m = cases-by zero at r (λ a t. got nomore a t) (caseBy s channels sub zero (wordAt s at) r) i l m (case-kept zero at r i l) (λ h. absurd (omega arith))
-    cases-kept (suc left) at r i l m = cases-by (suc left) at r (casesFrom s channels sub left) (caseBy s channels sub (suc left) (wordAt s at) r) i l m (case-kept (suc left) at r i l) (λ _ a t. cases-kept left a t)
+    unfolding casesFrom caseCount sizeS sizeB sizeC
+    cases-kept left at r i l m =
+        many-holds _ _ _ (λ at r. Edge at × (rows < r) × (r ≤ rowLimit))
+        (λ left r k a t. Edge a × CaseRead channels (suc depth) r left k t) (λ left r cs a t. Edge a × CasesRead channels (suc depth) r (suc left) cs t) _
+        (λ left at r (i, l, m). case-kept left at r i l) (λ left at r (i, l, m). last-kept (suc left) at r i (omega arith) l m)
+        (λ left at r k a t (_, l, _) (i, h). (i, omega (arith, h .sized), h .room))
+        (λ left r k a t cs c u (_, h) (i, z).
+        (i, record { fewer = omega (arith, h .some, z .fewer); proper = (h .op, h .proper, z .proper); sized = omega (arith, h .sized, z .sized); room = z .room }))
+        left at r (i, l, m)
 
     op-word : (at : ℕ) → isOpWord s channels sub (wordAt s at) ≡ true → names rowsFull (wordAt s at .kind) ≡ true
     op-word at =
@@ -221,24 +216,17 @@ module _ (s : List ℕ) (Edge : ℕ → Type 0) (behind : (at : ℕ) → Edge (w
 
   -- BODIES, with one step more than rows are left
 
-  body-by : (channels depth at rows : ℕ) (rest : ℕ → ℕ → Part Body) (p : Part Stmt) → Edge at → rows ≤ rowLimit → Kept s Edge (StmtRead channels depth rows) p
-      → ((a r : ℕ) → Edge a → rows < r → r ≤ rowLimit → Kept s Edge (BodyRead channels depth r) (rest a r)) → Kept s Edge (BodyRead channels depth rows) (bodyBy rest at rows p)
-  unfolding sizeS sizeB sizeC
-  body-by channels depth at rows rest (got x a r) i l h f =
-      let one = h .1 in
-      bind-kept (BodyRead channels depth r) (BodyRead channels depth rows) (rest a r) _ (f a r (h .0) (omega (arith, one .sized, positive x)) (one .room))
-      (λ b c t k z. (k, record { proper = (one .proper, z .proper); sized = omega (arith, one .sized, z .sized); room = z .room }))
-  body-by channels depth at rows rest none i l h f = (i, record { proper = tt; sized = omega arith; room = l })
-  body-by channels depth at rows rest (bad n place) i l h f = h
-
   pub body-kept : (k channels depth at rows : ℕ) → Edge at → rows ≤ rowLimit → rowLimit - rows < k → Kept s Edge (BodyRead channels depth rows) (bodyFrom k s channels depth at rows)
-  unfolding bodyFrom
+  unfolding bodyFrom sizeS sizeB sizeC
   body-kept zero channels depth at rows i l h = absurd (omega arith)
   body-kept (suc k) channels depth at rows i l h =
       let deeper = bodyFrom k s channels (depth + 1) in
-      body-by channels depth at rows (bodyFrom k s channels depth) (stmtBy s channels deeper depth (wordAt s at) rows) i l
+      ahead-holds _ (λ x a r. Edge a × StmtRead channels depth rows x r) (λ r b c m. Edge c × BodyRead channels depth r b m)
+      (λ b c m. Edge c × BodyRead channels depth rows b m) _ (bodyFrom k s channels depth) _ (stmtBy s channels deeper depth (wordAt s at) rows)
       (stmt-kept channels depth rows deeper (λ a r j m n. rw add-one (body-kept k channels (suc depth) a r j n (omega arith))) at i)
-      (λ a r j m n. body-kept k channels depth a r j n (omega arith))
+      (λ x a r (j, q). body-kept k channels depth a r j (q .room) (omega (arith, q .sized, positive x)))
+      (λ x a r b c m (_, q) (j, z). (j, record { proper = (q .proper, z .proper); sized = omega (arith, q .sized, z .sized); room = z .room }))
+      (i, record { proper = tt; sized = omega arith; room = l })
 
   -- So bodies one block deeper keep to it, and the statements around them.
   pub deeper-kept : (k channels depth rows : ℕ) → rowLimit - rows < suc k → (at r : ℕ) → Edge at → rows < r → r ≤ rowLimit → Kept s Edge (BodyRead channels (suc depth) r) (bodyFrom k s channels (depth + 1) at r)
@@ -264,18 +252,15 @@ module _ (s : List ℕ) (Edge : ℕ → Type 0) (behind : (at : ℕ) → Edge (w
       keep none m q = tt
       keep (bad n place) m q = q
 
-  chans-by : (left at rows : ℕ) (rest : ℕ → ℕ → Part (List ℕ)) (p : Part ℕ) → Edge at → rows ≡ 0 → Kept s Edge (ChanRead left) p → (1 ≤ left → (a r : ℕ) → Edge a → r ≡ 0 → Kept s Edge (ChansRead left) (rest a r)) → Kept s Edge (ChansRead (suc left)) (chansBy s rest at rows p)
-  chans-by left at rows rest (got n a r) i l h f =
-      let one = h .1 in
-      bind-kept (ChansRead left) (ChansRead (suc left)) (rest a r) _ (f (one .some) a r (h .0) (one .first))
-      (λ ns c t k z. (k, record { fewer = omega (arith, z .fewer); within = (one .within, z .within); first = z .first }))
-  chans-by left at rows rest none i l h f = (i, record { fewer = omega arith; within = tt; first = l })
-  chans-by left at rows rest (bad n place) i l h f = h
-
   pub chans-kept : (left at rows : ℕ) → Edge at → rows ≡ 0 → Kept s Edge (ChansRead (suc left)) (chansFrom s left at rows)
   unfolding chansFrom
-  chans-kept zero at rows i l = chans-by zero at rows (λ a r. got [] a r) (chanBy s zero (wordAt s at) rows) i l (chan-kept zero at rows i l) (λ h. absurd (omega arith))
-  chans-kept (suc left) at rows i l = chans-by (suc left) at rows (chansFrom s left) (chanBy s (suc left) (wordAt s at) rows) i l (chan-kept (suc left) at rows i l) (λ _ a r. chans-kept left a r)
+  chans-kept left at rows i l =
+      many-holds _ _ _ (λ at rows. Edge at × (rows ≡ 0))
+      (λ left rows n a r. Edge a × ChanRead left n r) (λ left rows ns a r. Edge a × ChansRead (suc left) ns r) _
+      (λ left at rows (i, l). chan-kept left at rows i l) (λ left at rows (i, l). (i, record { fewer = omega arith; within = tt; first = l }))
+      (λ left at rows n a r _ (i, h). (i, h .first))
+      (λ left rows n a r ns c m (_, h) (i, z). (i, record { fewer = omega (arith, h .some, z .fewer); within = (h .within, z .within); first = z .first }))
+      left at rows (i, l)
 
   module _ (channels : ℕ) where
     task-end-kept : (left at rows r : ℕ) (b : Body) → Edge at → 1 ≤ left → BodyRead channels 0 rows b r → Kept s Edge (TaskRead channels rows left) (taskEnd s b (wordAt s at) r)
@@ -300,20 +285,17 @@ module _ (s : List ℕ) (Edge : ℕ → Type 0) (behind : (at : ℕ) → Edge (w
         (λ _. tt)
         (λ e. word-refused wordOutOfPlace at i (omega arith) (omega arith) (rw e)))
 
-    tasks-by : (left at rows : ℕ) (rest : ℕ → ℕ → Part (List Body)) (p : Part Body) → Edge at → rows ≤ rowLimit → Kept s Edge (TaskRead channels rows left) p
-        → (1 ≤ left → (a r : ℕ) → Edge a → r ≤ rowLimit → Kept s Edge (TasksRead channels r left) (rest a r)) → Kept s Edge (TasksRead channels rows (suc left)) (tasksBy s rest at rows p)
-    unfolding sizeT
-    tasks-by left at rows rest (got b a r) i l h f =
-        let one = h .1 in
-        bind-kept (TasksRead channels r left) (TasksRead channels rows (suc left)) (rest a r) _ (f (one .some) a r (h .0) (one .room))
-        (λ bs c t k z. (k, record { fewer = omega (arith, z .fewer); proper = (one .proper, z .proper); sized = omega (arith, one .sized, z .sized); room = z .room }))
-    tasks-by left at rows rest none i l h f = (i, record { fewer = omega arith; proper = tt; sized = omega arith; room = l })
-    tasks-by left at rows rest (bad n place) i l h f = h
-
     pub tasks-kept : (left at rows : ℕ) → Edge at → rows ≤ rowLimit → Kept s Edge (TasksRead channels rows (suc left)) (tasksFrom s channels left at rows)
-    unfolding tasksFrom
-    tasks-kept zero at rows i l = tasks-by zero at rows (λ a r. got [] a r) (taskBy s channels zero (wordAt s at) rows) i l (task-kept zero at rows i l) (λ h. absurd (omega arith))
-    tasks-kept (suc left) at rows i l = tasks-by (suc left) at rows (tasksFrom s channels left) (taskBy s channels (suc left) (wordAt s at) rows) i l (task-kept (suc left) at rows i l) (λ _ a r. tasks-kept left a r)
+    unfolding tasksFrom sizeT
+    tasks-kept left at rows i l =
+        many-holds _ _ _ (λ at rows. Edge at × (rows ≤ rowLimit))
+        (λ left rows b a r. Edge a × TaskRead channels rows left b r) (λ left rows bs a r. Edge a × TasksRead channels rows (suc left) bs r) _
+        (λ left at rows (i, l). task-kept left at rows i l)
+        (λ left at rows (i, l). (i, record { fewer = omega arith; proper = tt; sized = omega arith; room = l }))
+        (λ left at rows b a r _ (i, h). (i, h .room))
+        (λ left rows b a r bs c m (_, h) (i, z).
+        (i, record { fewer = omega (arith, h .some, z .fewer); proper = (h .proper, z .proper); sized = omega (arith, h .sized, z .sized); room = z .room }))
+        left at rows (i, l)
 
   job-of-kept : (caps : List ℕ) (bs : List Body) (at rows : ℕ) → Edge at → ChansRead (suc channelLimit) caps 0 → TasksRead (length caps) 0 (suc taskLimit) bs rows → Kept s Edge JobRead (jobOf s caps bs at rows)
   job-of-kept caps [] at rows i c t = end-refused noTaskGiven (omega arith) (omega arith)

@@ -1,4 +1,4 @@
--- One turn of each loop over statements and cases, and what the calls between the readers hand on. Assumes nothing.
+-- One lap of each loop over statements and cases, and what the calls between the readers hand on. Assumes nothing.
 use mathlib.Core.Path.{_≡_, refl, sym, ap, _∙_}
 use mathlib.Core.List.{List}
 use Prim.Native.Nat.{ℕ, zero, suc, _+_, _-_, _≤_, _<_}
@@ -6,11 +6,12 @@ use native.Mathlib.Omega.{arith}
 use borrow.Author.Tests.{eq-eqb, ne-eqb, lt-ltb, le-ltb}
 use Rattle.text_reader.specs.Kinds.{Op, Word, Read, Counted, OpRead}
 use Rattle.meaning.specs.Numbers.{caseLimit, rowLimit, oneTooMany, rowsFull}
-use Rattle.meaning.specs.Text.{Stmt, ifok, Body, empty, _▸_, Cases, nomore, default, case}
+use Rattle.meaning.specs.Text.{ifok, Body, empty, _▸_, Cases, default, case}
 use Rattle.text_words.specs.Words.{elseKind, caseKind, defaultKind, wordAt}
-use Rattle.text_reader.specs.Reading.{Part, got, none, bad, bind, closed, opBy, secondBy, orMisplaced, caseOp, caseBy, lastBy, casesBy, casesFrom, stmtBy, bodyBy, bodyFrom}
-use Rattle.text_reader.specs.Answers.{told, self, counted, opPart, OpTold, outOfPlace, BodyTold, StmtTold, CaseTold, CasesTold, countBy, countFrom}
-use Rattle.text_reader.specs.laws.Parts.{told-got, told-with, told-misplaced, All, counted-more, counted-last}
+use Rattle.text_reader.specs.Reading.{Part, got, none, bad, bind, ahead, closed, opBy, secondBy, orMisplaced, caseOp, caseBy, lastBy, casesFrom, stmtBy, bodyFrom}
+use Rattle.text_reader.specs.Answers.{told, self, counted, opPart, OpTold, outOfPlace, BodyTold, StmtTold, CaseTold, CasesTold, countFrom}
+use Rattle.text_reader.specs.laws.Parts.{told-got, told-none, told-bad, told-with, told-misplaced, All, Sure}
+use Rattle.text_reader.specs.laws.Many.{many-more, many-end, many-bad, counted-done, many-sure, many-holds, many-by}
 use Rattle.text_reader.specs.laws.Sizes.{SizedB, SizedS, SizedCase, case-sized, stmt-sized, body-sized}
 
 -- What is told of a statement or a body that was read: how its rows grow.
@@ -28,7 +29,7 @@ module _ (s : List ℕ) (channels depth at rows : ℕ) {a r : ℕ} {v : Read} (e
       let z : All (SizedB rows) (got (g .0) a r) = rw (g .1) at (body-sized (suc rowLimit) s channels depth at rows) in
       omega arith
 
--- ONE TURN OF THE LOOP OVER STATEMENTS
+-- ONE LAP OF THE LOOP OVER STATEMENTS
 
 module _ (s : List ℕ) (channels depth at rows : ℕ) where
   body-more : (k : ℕ) {a r : ℕ} → Read.Done a r ≡ told (stmtBy s channels (bodyFrom k s channels (depth + 1)) depth (wordAt s at) rows) → told (bodyFrom k s channels depth a r) ≡ told (bodyFrom (suc k) s channels depth at rows)
@@ -37,103 +38,41 @@ module _ (s : List ℕ) (channels depth at rows : ℕ) where
       let g = told-got (stmtBy s channels (bodyFrom k s channels (depth + 1)) depth (wordAt s at) rows) e in
       rw (g .1) (told-with (bodyFrom k s channels depth a r) (g .0 ▸_))
 
-  body-ended : (rest : ℕ → ℕ → Part Body) (p : Part Stmt) → Read.Nothing ≡ told p → Read.Done at rows ≡ told (bodyBy rest at rows p)
-  unfolding told
-  body-ended rest (got x at′ rows′) e = cc
-  body-ended rest none e = refl
-  body-ended rest (bad n place) e = cc
+  pub body-step : {v : Read} (m : ℕ) → rowLimit - rows < m → StmtTold s channels depth at rows v → {a r : ℕ} → v ≡ Read.Done a r
+      → (j : ℕ) × (rowLimit - r < j) × (told (bodyFrom j s channels depth a r) ≡ told (bodyFrom m s channels depth at rows))
+  body-step zero h f e = absurd (omega arith)
+  body-step (suc j) h f e = let g = stmt-grows s channels depth at rows e f in (j, omega arith, body-more j (sym e ∙ f j (omega arith)))
 
-  body-bad : (rest : ℕ → ℕ → Part Body) (p : Part Stmt) {n place : ℕ} → Read.Refused n place ≡ told p → Read.Refused n place ≡ told (bodyBy rest at rows p)
-  unfolding told
-  body-bad rest (got x at′ rows′) e = cc
-  body-bad rest none e = cc
-  body-bad rest (bad n place) e = e
+  pub body-end : {v : Read} (m : ℕ) → rowLimit - rows < m → StmtTold s channels depth at rows v → v ≡ Read.Nothing
+      → Read.Done at rows ≡ told (bodyFrom m s channels depth at rows)
+  unfolding bodyFrom told
+  body-end zero h f e = absurd (omega arith)
+  body-end (suc j) h f e = rw (told-none (stmtBy s channels (bodyFrom j s channels (depth + 1)) depth (wordAt s at) rows) (sym e ∙ f j (omega arith)))
 
-  module _ {v : Read} (m : ℕ) (h : rowLimit - rows < m) (f : StmtTold s channels depth at rows v) where
-    pub body-step : {a r : ℕ} → v ≡ Read.Done a r → (j : ℕ) × (rowLimit - r < j) × (told (bodyFrom j s channels depth a r) ≡ told (bodyFrom m s channels depth at rows))
-    body-step {a} {r} e = go m h
-      where
-        go : (m : ℕ) → rowLimit - rows < m → (j : ℕ) × (rowLimit - r < j) × (told (bodyFrom j s channels depth a r) ≡ told (bodyFrom m s channels depth at rows))
-        go zero h = absurd (omega arith)
-        go (suc j) h = let g = stmt-grows s channels depth at rows e f in (j, omega arith, body-more j (sym e ∙ f j (omega arith)))
+  pub body-refused : {v : Read} (m : ℕ) → rowLimit - rows < m → StmtTold s channels depth at rows v → {n place : ℕ} → v ≡ Read.Refused n place
+      → Read.Refused n place ≡ told (bodyFrom m s channels depth at rows)
+  unfolding bodyFrom told
+  body-refused zero h f e = absurd (omega arith)
+  body-refused (suc j) h f e = rw (told-bad (stmtBy s channels (bodyFrom j s channels (depth + 1)) depth (wordAt s at) rows) (sym e ∙ f j (omega arith)))
 
-    pub body-end : v ≡ Read.Nothing → Read.Done at rows ≡ told (bodyFrom m s channels depth at rows)
-    unfolding bodyFrom
-    body-end e = go m h
-      where
-        go : (m : ℕ) → rowLimit - rows < m → Read.Done at rows ≡ told (bodyFrom m s channels depth at rows)
-        go zero h = absurd (omega arith)
-        go (suc j) h = body-ended (bodyFrom j s channels depth) (stmtBy s channels (bodyFrom j s channels (depth + 1)) depth (wordAt s at) rows) (sym e ∙ f j (omega arith))
-
-    pub body-refused : {n place : ℕ} → v ≡ Read.Refused n place → Read.Refused n place ≡ told (bodyFrom m s channels depth at rows)
-    unfolding bodyFrom
-    body-refused {n} {place} e = go m h
-      where
-        go : (m : ℕ) → rowLimit - rows < m → Read.Refused n place ≡ told (bodyFrom m s channels depth at rows)
-        go zero h = absurd (omega arith)
-        go (suc j) h = body-bad (bodyFrom j s channels depth) (stmtBy s channels (bodyFrom j s channels (depth + 1)) depth (wordAt s at) rows) (sym e ∙ f j (omega arith))
-
--- ONE TURN OF THE LOOP OVER CASES
+-- ONE LAP OF THE LOOP OVER CASES
 
 module _ (s : List ℕ) (channels : ℕ) (sub : ℕ → ℕ → Part Body) where
-  -- Behind a case: what is read on, and what is counted on.
-  count-by : (rest : ℕ → ℕ → Part ℕ) (at rows n : ℕ) {a r : ℕ} (p : Part (Op × Body)) → Read.Done a r ≡ told p → counted self (n + 1) (rest a r) ≡ counted self n (countBy rest at rows p)
-  count-by rest at rows n p e = let g = told-got p e in rw (g .1) (counted-more self self n (rest _ _) suc (λ x. refl))
-
   pub count-step : (left at rows n : ℕ) {a r : ℕ} {v : Read} → v ≡ Read.Done a r → v ≡ told (caseBy s channels sub left (wordAt s at) rows)
       → (j : ℕ) → suc j ≡ left → counted self (n + 1) (countFrom s channels sub j a r) ≡ counted self n (countFrom s channels sub left at rows)
   unfolding countFrom
-  count-step zero at rows n e h j q = absurd (omega arith)
-  count-step (suc left) at rows n {a} {r} e h j q =
-      let z : j ≡ left = omega arith in
-      rw z (count-by (countFrom s channels sub left) at rows n (caseBy s channels sub (suc left) (wordAt s at) rows) (sym e ∙ h))
-
-  ends-by : (rest : ℕ → ℕ → Part ℕ) (at rows n : ℕ) (p : Part (Op × Body)) → Read.Nothing ≡ told p → Counted.Done at rows n ≡ counted self n (countBy rest at rows p)
-  unfolding told
-  ends-by rest at rows n (got k a r) e = cc
-  ends-by rest at rows n none e = counted-last self 0 n at rows refl
-  ends-by rest at rows n (bad m place) e = cc
-
-  stops-by : (rest : ℕ → ℕ → Part ℕ) (at rows n : ℕ) (p : Part (Op × Body)) {m place : ℕ} → Read.Refused m place ≡ told p → Counted.Refused m place ≡ counted self n (countBy rest at rows p)
-  unfolding told counted
-  stops-by rest at rows n (got k a r) e = cc
-  stops-by rest at rows n none e = cc
-  stops-by rest at rows n (bad m place) e = cc
+  count-step left at rows n e h = many-more _ _ _ self left at rows n e h (λ k n. refl)
 
   pub count-end : (left at rows n : ℕ) {v : Read} → v ≡ Read.Nothing → v ≡ told (caseBy s channels sub left (wordAt s at) rows) → Counted.Done at rows n ≡ counted self n (countFrom s channels sub left at rows)
   unfolding countFrom
-  count-end zero at rows n e h = ends-by (λ at r. got 0 at r) at rows n (caseBy s channels sub zero (wordAt s at) rows) (sym e ∙ h)
-  count-end (suc left) at rows n e h = ends-by (countFrom s channels sub left) at rows n (caseBy s channels sub (suc left) (wordAt s at) rows) (sym e ∙ h)
+  count-end left at rows n e h = many-end _ _ _ self left at rows n 0 refl refl e h
 
   pub count-refused : (left at rows n : ℕ) {v : Read} {m place : ℕ} → v ≡ Read.Refused m place → v ≡ told (caseBy s channels sub left (wordAt s at) rows) → Counted.Refused m place ≡ counted self n (countFrom s channels sub left at rows)
   unfolding countFrom
-  count-refused zero at rows n e h = stops-by (λ at r. got 0 at r) at rows n (caseBy s channels sub zero (wordAt s at) rows) (sym e ∙ h)
-  count-refused (suc left) at rows n e h = stops-by (countFrom s channels sub left) at rows n (caseBy s channels sub (suc left) (wordAt s at) rows) (sym e ∙ h)
+  count-refused left at rows n e h = many-bad _ _ _ self left at rows n e h
 
 -- The cases that were counted, and what is told of them with the default behind them.
 module _ (s : List ℕ) (channels : ℕ) (sub : ℕ → ℕ → Part Body) (counts : (at rows : ℕ) → All (SizedB rows) (sub at rows)) where
-  -- The cases are there, or refused; the rows don't fall.
-  abbrev Sure : ℕ → Part ℕ → Type 0
-  Sure rows (got n at r) = rows ≤ r
-  Sure rows none = ⊥
-  Sure rows (bad n place) = Unit {0}
-
-  sure-by : (rest : ℕ → ℕ → Part ℕ) → ((at rows : ℕ) → Sure rows (rest at rows)) → (left at rows : ℕ) (p : Part (Op × Body)) → All (SizedCase left rows) p → Sure rows (countBy rest at rows p)
-  unfolding bind
-  sure-by rest h left at rows (got k a r) e = go (rest a r) (h a r)
-    where
-      go : (q : Part ℕ) → Sure r q → Sure rows (bind q (λ n a r. got (suc n) a r))
-      go (got n a′ r′) f = omega arith
-      go none f = f
-      go (bad n place) f = tt
-  sure-by rest h left at rows none e = omega arith
-  sure-by rest h left at rows (bad n place) e = tt
-
-  count-sure : (left at rows : ℕ) → Sure rows (countFrom s channels sub left at rows)
-  unfolding countFrom
-  count-sure zero at rows = sure-by (λ at r. got 0 at r) (λ at r. omega arith) 0 at rows (caseBy s channels sub 0 (wordAt s at) rows) (case-sized s channels sub counts 0 (wordAt s at) rows)
-  count-sure (suc left) at rows = sure-by (countFrom s channels sub left) (count-sure left) (suc left) at rows (caseBy s channels sub (suc left) (wordAt s at) rows) (case-sized s channels sub counts (suc left) (wordAt s at) rows)
-
   abbrev lastOf : ℕ → ℕ → ℕ → Part Cases
   lastOf n at rows = lastBy s channels sub at (wordAt s at) rows
 
@@ -143,37 +82,48 @@ module _ (s : List ℕ) (channels : ℕ) (sub : ℕ → ℕ → Part Body) (coun
   bind-suc none = refl
   bind-suc (bad n place) = refl
 
-  last-by : (rest : ℕ → ℕ → Part Cases) (restc : ℕ → ℕ → Part ℕ) (left at rows : ℕ) (p : Part (Op × Body)) → All (SizedCase left rows) p → ((left ≡ 0 → ⊥) → (a r : ℕ) → told (rest a r) ≡ told (bind (restc a r) lastOf))
-      → told (casesBy s channels sub rest at rows p) ≡ told (bind (countBy restc at rows p) lastOf)
+  last-by : (rest : ℕ → ℕ → Part Cases) (restc : ℕ → ℕ → Part ℕ) (at rows : ℕ) (p : Part (Op × Body))
+      → ((a r : ℕ) → told (rest a r) ≡ told (bind (restc a r) lastOf))
+      → told (ahead (λ k cs. case (k .0) (k .1) cs) rest (lastOf 0 at rows) p) ≡ told (bind (ahead (λ k n. suc n) restc (got 0 at rows) p) lastOf)
   unfolding bind
-  last-by rest restc left at rows (got k a r) e h = sym (told-with (rest a r) (case (k .0) (k .1))) ∙ h (e .1) a r ∙ bind-suc (restc a r)
-  last-by rest restc left at rows none e h = refl
-  last-by rest restc left at rows (bad n place) e h = refl
+  last-by rest restc at rows (got k a r) h = sym (told-with (rest a r) (case (k .0) (k .1))) ∙ h a r ∙ bind-suc (restc a r)
+  last-by rest restc at rows none h = refl
+  last-by rest restc at rows (bad n place) h = refl
 
   cases-last : (left at rows : ℕ) → told (casesFrom s channels sub left at rows) ≡ told (bind (countFrom s channels sub left at rows) lastOf)
-  unfolding casesFrom countFrom
-  cases-last zero at rows = last-by (λ at r. got nomore at r) (λ at r. got 0 at r) 0 at rows (caseBy s channels sub 0 (wordAt s at) rows) (case-sized s channels sub counts 0 (wordAt s at) rows) (λ n a r. absurd (n refl))
-  cases-last (suc left) at rows = last-by (casesFrom s channels sub left) (countFrom s channels sub left) (suc left) at rows (caseBy s channels sub (suc left) (wordAt s at) rows) (case-sized s channels sub counts (suc left) (wordAt s at) rows) (λ _. cases-last left)
+  unfolding casesFrom countFrom bind
+  cases-last =
+      many-by _ _ _ _ _ _ (λ left at rows p q. told p ≡ told (bind q lastOf)) (λ at rows. refl)
+      (λ rest restc left at rows h. last-by rest restc at rows (caseBy s channels sub left (wordAt s at) rows) h)
+
+  count-sure : (left at rows : ℕ) → Sure (countFrom s channels sub left at rows)
+  unfolding countFrom
+  count-sure = many-sure _ _ _ (λ at rows. tt)
+
+  -- The rows don't fall.
+  count-rows : (left at rows : ℕ) → All (λ n r. rows ≤ r) (countFrom s channels sub left at rows)
+  unfolding countFrom
+  count-rows left at rows =
+      many-holds _ _ _ (λ at rows. Unit {0}) (λ left rows k a r. SizedCase left rows k r) (λ left rows n a r. rows ≤ r) _
+      (λ left at rows _. case-sized s channels sub counts left (wordAt s at) rows) (λ left at rows _. omega arith) (λ _ _ _ _ _ _ _ _. tt)
+      (λ left rows k a r n c m e z. omega arith) left at rows tt
 
   module _ {w : Counted} (left at rows : ℕ) (e : w ≡ counted self 0 (countFrom s channels sub left at rows)) where
-    counted-done : (p : Part ℕ) {a r n : ℕ} → Counted.Done a r n ≡ counted self 0 p → (m : ℕ) × (p ≡ got m a r)
-    unfolding counted
-    counted-done (got m a r) e = (m, cc)
-    counted-done none e = absurd (let z : _≡_ {A = ℕ} 0 1 = cc in omega arith)
-    counted-done (bad m place) e = absurd (let z : _≡_ {A = ℕ} 0 1 = cc in omega arith)
-
     count-grows : {a r n : ℕ} → w ≡ Counted.Done a r n → rows ≤ r
-    count-grows {a} {r} d = let g = counted-done (countFrom s channels sub left at rows) (sym d ∙ e) in let z : Sure rows (got (g .0) a r) = rw (g .1) at (count-sure left at rows) in z
+    count-grows {a} {r} d =
+        let g = counted-done self (countFrom s channels sub left at rows) (sym d ∙ e) in
+        let z : All (λ n r. rows ≤ r) (got (g .0) a r) = rw (g .1) at (count-rows left at rows) in
+        z
 
     last-told : {a r n : ℕ} {v : Read} → w ≡ Counted.Done a r n → v ≡ told (lastBy s channels sub a (wordAt s a) r) → v ≡ told (casesFrom s channels sub left at rows)
     unfolding bind
-    last-told d h = let g = counted-done (countFrom s channels sub left at rows) (sym d ∙ e) in rw (cases-last left at rows, g .1) h
+    last-told d h = let g = counted-done self (countFrom s channels sub left at rows) (sym d ∙ e) in rw (cases-last left at rows, g .1) h
 
     count-bad : {n place : ℕ} → w ≡ Counted.Refused n place → Read.Refused n place ≡ told (casesFrom s channels sub left at rows)
     unfolding bind counted told
     count-bad {n} {place} d = rw (cases-last left at rows) (go (countFrom s channels sub left at rows) (count-sure left at rows) (sym d ∙ e))
       where
-        go : (p : Part ℕ) → Sure rows p → Counted.Refused n place ≡ counted self 0 p → Read.Refused n place ≡ told (bind p lastOf)
+        go : (p : Part ℕ) → Sure p → Counted.Refused n place ≡ counted self 0 p → Read.Refused n place ≡ told (bind p lastOf)
         go (got m a r) f e = cc
         go none f e = absurd f
         go (bad m place′) f e = cc

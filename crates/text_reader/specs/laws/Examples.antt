@@ -7,7 +7,7 @@ use lib.ListN.{replicate}
 use Rattle.text_reader.specs.Kinds.{Port, Nil, On, Send, Forward, Recv}
 use Rattle.meaning.specs.Text.{operate, close, stop, range, repeat, ifok, select, Body, empty, _▸_, nomore, default, case, Job}
 use Rattle.text_words.specs.Words.{wordAt, firstNotAllowed, kindOf, valueOf, startAt, nextAt, bytesAt, numeral, decimal, isNumber, onlyDigits, leadingZero, placeOf, differs, sameWord, reserved, run, inWord, isAllowed, isLetter, isDigit, isBlank}
-use Rattle.text_reader.specs.Reading.{Part, got, none, bad, bind, numberBy, closedBy, portBy, opBy, secondBy, caseOp, caseBy, lastBy, casesFrom, stmtBy, bodyFrom, chanBy, chansFrom, taskEnd, taskBy, tasksFrom, job, reading}
+use Rattle.text_reader.specs.Reading.{Part, got, none, bad, bind, many, numberBy, closedBy, portBy, opBy, secondBy, caseOp, caseBy, lastBy, casesFrom, stmtBy, bodyFrom, chanBy, chansFrom, taskEnd, taskBy, tasksFrom, job, reading}
 
 -- The capacities and tasks of a job, or a refusal's number and place.
 data Answer : Type 0 where
@@ -272,19 +272,19 @@ rowExamples =
     ∷ []
 
 examples-hold : map (λ e. answerOf (reading (e .text))) examples ≡ map (λ e. e .answer) examples
-unfolding answerOf reading job tasksFrom taskBy taskEnd chansFrom chanBy bodyFrom stmtBy casesFrom lastBy caseBy caseOp secondBy opBy portBy closedBy numberBy bind wordAt firstNotAllowed kindOf valueOf startAt nextAt bytesAt numeral decimal isNumber onlyDigits leadingZero placeOf differs sameWord reserved run inWord isAllowed isLetter isDigit isBlank
+unfolding answerOf reading job tasksFrom taskBy taskEnd chansFrom chanBy bodyFrom stmtBy casesFrom lastBy caseBy caseOp secondBy opBy portBy closedBy numberBy many bind wordAt firstNotAllowed kindOf valueOf startAt nextAt bytesAt numeral decimal isNumber onlyDigits leadingZero placeOf differs sameWord reserved run inWord isAllowed isLetter isDigit isBlank
 examples-hold = refl
 
 rows-hold : map (λ e. askedOf (e .text) (e .rows) (e .asked)) rowExamples ≡ map (λ e. e .answer) rowExamples
-unfolding askedOf refusalOf reading job tasksFrom taskBy taskEnd chansFrom chanBy bodyFrom stmtBy casesFrom lastBy caseBy caseOp secondBy opBy portBy closedBy numberBy bind wordAt firstNotAllowed kindOf valueOf startAt nextAt bytesAt numeral decimal isNumber onlyDigits leadingZero placeOf differs sameWord reserved run inWord isAllowed isLetter isDigit isBlank
+unfolding askedOf refusalOf reading job tasksFrom taskBy taskEnd chansFrom chanBy bodyFrom stmtBy casesFrom lastBy caseBy caseOp secondBy opBy portBy closedBy numberBy many bind wordAt firstNotAllowed kindOf valueOf startAt nextAt bytesAt numeral decimal isNumber onlyDigits leadingZero placeOf differs sameWord reserved run inWord isAllowed isLetter isDigit isBlank
 rows-hold = refl
 
 -- 1: over 16,384 bytes, at place 0, ahead of 2.
 long-text : answerOf (reading (replicate 16385 33)) ≡ no 1 0
-unfolding answerOf reading job tasksFrom taskBy taskEnd chansFrom chanBy bodyFrom stmtBy casesFrom lastBy caseBy caseOp secondBy opBy portBy closedBy numberBy bind wordAt firstNotAllowed kindOf valueOf startAt nextAt bytesAt numeral decimal isNumber onlyDigits leadingZero placeOf differs sameWord reserved run inWord isAllowed isLetter isDigit isBlank
+unfolding answerOf reading job tasksFrom taskBy taskEnd chansFrom chanBy bodyFrom stmtBy casesFrom lastBy caseBy caseOp secondBy opBy portBy closedBy numberBy many bind wordAt firstNotAllowed kindOf valueOf startAt nextAt bytesAt numeral decimal isNumber onlyDigits leadingZero placeOf differs sameWord reserved run inWord isAllowed isLetter isDigit isBlank
 long-text = refl
 
 -- A text of 16,384 bytes is read: here its first byte is refused.
 longest-text : answerOf (reading (replicate 16384 33)) ≡ no 2 0
-unfolding answerOf reading job tasksFrom taskBy taskEnd chansFrom chanBy bodyFrom stmtBy casesFrom lastBy caseBy caseOp secondBy opBy portBy closedBy numberBy bind wordAt firstNotAllowed kindOf valueOf startAt nextAt bytesAt numeral decimal isNumber onlyDigits leadingZero placeOf differs sameWord reserved run inWord isAllowed isLetter isDigit isBlank
+unfolding answerOf reading job tasksFrom taskBy taskEnd chansFrom chanBy bodyFrom stmtBy casesFrom lastBy caseBy caseOp secondBy opBy portBy closedBy numberBy many bind wordAt firstNotAllowed kindOf valueOf startAt nextAt bytesAt numeral decimal isNumber onlyDigits leadingZero placeOf differs sameWord reserved run inWord isAllowed isLetter isDigit isBlank
 longest-text = refl

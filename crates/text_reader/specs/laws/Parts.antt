@@ -1,18 +1,18 @@
 -- A part of the text: what is told of it, and what holds of it. Assumes nothing.
-use mathlib.Core.Path.{_≡_, refl, sym, ap, _∙_}
+use mathlib.Core.Path.{_≡_, refl, sym, _∙_}
 use mathlib.Core.Bool.{Bool, true, false, cond}
 use mathlib.Core.List.{List}
-use Prim.Native.Nat.{ℕ, suc, _+_, _<_}
+use Prim.Native.Nat.{ℕ, _+_, _<_}
 use native.Mathlib.Omega.{arith}
 use borrow.Author.Tests.{ltb-true}
 use lib.Dec.{eqb, ltb}
 use lib.ListN.{length}
 use Rattle.meaning.specs.Numbers.{depthLimit, rowLimit, wordOutOfPlace, tooDeep, rowsFull, cutShort}
 use Rattle.meaning.specs.laws.Tests.{cond-all}
-use Rattle.text_reader.specs.Kinds.{Word, Read, Counted}
+use Rattle.text_reader.specs.Kinds.{Word, Read}
 use Rattle.text_words.specs.Words.{noKind}
 use Rattle.text_reader.specs.Reading.{Part, got, none, bad, bind, misplaced, withRow, asBlock}
-use Rattle.text_reader.specs.Answers.{told, counted, outOfPlace}
+use Rattle.text_reader.specs.Answers.{told, outOfPlace}
 
 -- A PART THAT IS THERE
 
@@ -50,6 +50,18 @@ unfolding told
 told-got (got x at′ rows′) e = (x, cc)
 told-got none e = absurd (let z : _≡_ {A = ℕ} 0 1 = cc in omega arith)
 told-got (bad n place) e = absurd (let z : _≡_ {A = ℕ} 0 1 = cc in omega arith)
+
+pub told-none : {A : Type 0} (p : Part A) → Read.Nothing ≡ told p → p ≡ none
+unfolding told
+told-none (got x at rows) e = cc
+told-none none e = refl
+told-none (bad n place) e = cc
+
+pub told-bad : {A : Type 0} (p : Part A) {n place : ℕ} → Read.Refused n place ≡ told p → p ≡ bad n place
+unfolding told
+told-bad (got x at rows) e = cc
+told-bad none e = cc
+told-bad (bad n place) e = cc
 
 -- Of a part and what is read behind it: where the part is there, and where it is not.
 pub bind-done : {A B : Type 0} (p : Part A) (f : A → ℕ → ℕ → Part B) {at rows : ℕ} {w : Read} (v : Read) → w ≡ Read.Done at rows → w ≡ told p → ((x : A) → v ≡ told (f x at rows)) → v ≡ told (bind p f)
@@ -96,17 +108,25 @@ told-misplaced s w f = go (eqb (w .kind) noKind)
 
 -- WHAT A PART HOLDS, and the rows that it takes
 
--- P holds of what was read and of the rows behind it.
+-- P of what was read, of the place behind it and of the rows; R of a refusal's number and place; nothing of a part that is not there.
+abbrev pub Holds : {A : Type 0} → (A → ℕ → ℕ → Type 0) → (ℕ → ℕ → Type 0) → Part A → Type 0
+Holds P R (got x at rows) = P x at rows
+Holds P R none = Unit {0}
+Holds P R (bad n place) = R n place
+
+pub bind-holds : {A B : Type 0} (P : A → ℕ → ℕ → Type 0) (Q : B → ℕ → ℕ → Type 0) (R : ℕ → ℕ → Type 0) (p : Part A) (f : A → ℕ → ℕ → Part B)
+    → Holds P R p → ((x : A) (at rows : ℕ) → P x at rows → Holds Q R (f x at rows)) → Holds Q R (bind p f)
+unfolding bind
+bind-holds P Q R (got x at rows) f h k = k x at rows h
+bind-holds P Q R none f h k = tt
+bind-holds P Q R (bad n place) f h k = h
+
+-- P of what was read and of the rows behind it; a refusal may be any.
 abbrev pub All : {A : Type 0} → (A → ℕ → Type 0) → Part A → Type 0
-All P (got x at rows) = P x rows
-All P none = Unit {0}
-All P (bad n place) = Unit {0}
+All P = Holds (λ x at rows. P x rows) (λ n place. Unit {0})
 
 pub bind-all : {A B : Type 0} (P : A → ℕ → Type 0) (Q : B → ℕ → Type 0) (p : Part A) (f : A → ℕ → ℕ → Part B) → All P p → ((x : A) (at rows : ℕ) → P x rows → All Q (f x at rows)) → All Q (bind p f)
-unfolding bind
-bind-all P Q (got x at rows) f h k = k x at rows h
-bind-all P Q none f h k = tt
-bind-all P Q (bad n place) f h k = tt
+bind-all P Q = bind-holds (λ x at rows. P x rows) (λ x at rows. Q x rows) (λ n place. Unit {0})
 
 -- A choice between two ways that wait for the rows.
 pub ways-all : {A : Type 0} (P : A → ℕ → Type 0) (b : Bool) (f g : ℕ → Part A) (rows : ℕ) → (b ≡ true → All P (f rows)) → (b ≡ false → All P (g rows)) → All P (cond b f g rows)
@@ -118,16 +138,15 @@ row-all P w f rows h = ways-all P (ltb rows rowLimit) f (λ r. bad rowsFull (w .
 pub block-all : {A : Type 0} (P : A → ℕ → Type 0) (depth : ℕ) (w : Word) (f : ℕ → Part A) (rows : ℕ) → (rows < rowLimit → All P (f (rows + 1))) → All P (asBlock depth w f rows)
 block-all P depth w f rows h = ways-all P (ltb depth depthLimit) (withRow w f) (λ r. bad tooDeep (w .start)) rows (λ _. row-all P w f rows h) (λ _. tt)
 
--- PARTS IN A ROW, counted
+-- A PART THAT IS THERE OR REFUSED
 
--- One more: `size` counts what `f` makes of what is left as one more than that.
-pub counted-more : {A B : Type 0} (size : A → ℕ) (measure : B → ℕ) (n : ℕ) (p : Part A) (f : A → B) → ((x : A) → measure (f x) ≡ suc (size x)) → counted size (n + 1) p ≡ counted measure n (bind p (λ x at r. got (f x) at r))
-unfolding counted bind
-counted-more size measure n (got x at r) f h = let q = h x in let e : n + 1 + size x ≡ n + measure (f x) = omega arith in rw e
-counted-more size measure n none f h = refl
-counted-more size measure n (bad m place) f h = refl
+abbrev pub Sure : {A : Type 0} → Part A → Type 0
+Sure (got x at rows) = Unit {0}
+Sure none = ⊥
+Sure (bad n place) = Unit {0}
 
--- An answer that counts nothing more.
-pub counted-last : {A : Type 0} (size : A → ℕ) (x : A) (n at rows : ℕ) → size x ≡ 0 → Counted.Done at rows n ≡ counted size n (got x at rows)
-unfolding counted
-counted-last size x n at rows h = let e : n ≡ n + size x = omega arith in ap (Counted.Done at rows) e
+pub bind-sure : {A B : Type 0} (p : Part A) (f : A → ℕ → ℕ → Part B) → Sure p → ((x : A) (at r : ℕ) → Sure (f x at r)) → Sure (bind p f)
+unfolding bind
+bind-sure (got x at rows) f h k = k x at rows
+bind-sure none f h k = h
+bind-sure (bad n place) f h k = tt

@@ -1,17 +1,17 @@
 -- The cases that are counted are a select's own: their number, and the default behind them. Assumes nothing.
 use mathlib.Core.Path.{_≡_, refl, _∙_}
 use mathlib.Core.List.{List}
-use Prim.Native.Nat.{ℕ, zero, suc}
-use native.Mathlib.Omega.{arith}
+use Prim.Native.Nat.{ℕ, suc}
 use lib.Dec.{eqb}
 use Rattle.text_reader.specs.Kinds.{Op, Word}
 use Rattle.meaning.specs.Text.{Body, Cases, nomore, default, case}
 use Rattle.meaning.specs.Layout.{caseCount}
 use Rattle.text_words.specs.Words.{defaultKind, wordAt}
-use Rattle.text_reader.specs.Reading.{Part, got, none, bad, bind, caseBy, lastBy, casesBy, casesFrom}
-use Rattle.text_reader.specs.Answers.{countBy, countFrom}
-use Rattle.text_reader.specs.laws.Parts.{same-got, bind-got, All, bind-all, ways-all}
-use Rattle.text_reader.specs.laws.Sizes.{SizedB, SizedCase, case-sized}
+use Rattle.text_reader.specs.Reading.{Part, got, none, bad, bind, ahead, caseBy, lastBy, casesFrom}
+use Rattle.text_reader.specs.Answers.{countFrom}
+use Rattle.text_reader.specs.laws.Parts.{bad-got, same-got, bind-got, All, bind-all, ways-all}
+use Rattle.text_reader.specs.laws.Sizes.{SizedB}
+use Rattle.text_reader.specs.laws.Many.{many-by}
 
 -- What stands behind the last case: a default, or nothing more.
 unfoldable pub behindCases : Cases → Cases
@@ -38,20 +38,21 @@ module _ (s : List ℕ) (channels : ℕ) (sub : ℕ → ℕ → Part Body) (coun
   unfolding bind caseCount behindCases
   split-more k p x cs e (b, m, q, l) = let i = same-got e in (b, m, rw (q, ← i .0), rw (← i .0, ← i .1, ← i .2) l)
 
-  split-by : (rest : ℕ → ℕ → Part Cases) (restc : ℕ → ℕ → Part ℕ) (left at rows : ℕ) (p : Part (Op × Body)) → All (SizedCase left rows) p
-      → ((left ≡ 0 → ⊥) → (a r : ℕ) (cs : Cases) (a′ r′ : ℕ) → rest a r ≡ got cs a′ r′ → Split (restc a r) cs a′ r′)
-      → (cs : Cases) (a r : ℕ) → casesBy s channels sub rest at rows p ≡ got cs a r → Split (countBy restc at rows p) cs a r
-  split-by rest restc left at rows (got k a0 r0) ok h cs a r e =
+  split-none : (at rows : ℕ) (cs : Cases) (a r : ℕ) → lastBy s channels sub at (wordAt s at) rows ≡ got cs a r → Split (got 0 at rows) cs a r
+  split-none at rows cs a r e = let z : All Alone (got cs a r) = rw e at (last-alone at (wordAt s at) rows) in (at, rows, rw (z .0), e ∙ rw (z .1))
+
+  split-by : (rest : ℕ → ℕ → Part Cases) (restc : ℕ → ℕ → Part ℕ) (at rows : ℕ) (p : Part (Op × Body))
+      → ((a r : ℕ) (cs : Cases) (a′ r′ : ℕ) → rest a r ≡ got cs a′ r′ → Split (restc a r) cs a′ r′)
+      → (cs : Cases) (a r : ℕ) → ahead (λ k cs. case (k .0) (k .1) cs) rest (lastBy s channels sub at (wordAt s at) rows) p ≡ got cs a r
+      → Split (ahead (λ k n. suc n) restc (got 0 at rows) p) cs a r
+  split-by rest restc at rows (got k a0 r0) h cs a r e =
       let g = bind-got (rest a0 r0) (λ cs a r. got (case (k .0) (k .1) cs) a r) e in
-      split-more k (restc a0 r0) (g .0) cs (g .4) (h (ok .1) a0 r0 (g .0) (g .1) (g .2) (g .3))
-  split-by rest restc left at rows none ok h cs a r e =
-      let z : All Alone (got cs a r) = rw e at (last-alone at (wordAt s at) rows) in
-      (at, rows, rw (z .0), e ∙ rw (z .1))
-  split-by rest restc left at rows (bad n place) ok h cs a r e = absurd (let z : _≡_ {A = ℕ} 0 1 = cc in omega arith)
+      split-more k (restc a0 r0) (g .0) cs (g .4) (h a0 r0 (g .0) (g .1) (g .2) (g .3))
+  split-by rest restc at rows none h cs a r e = split-none at rows cs a r e
+  split-by rest restc at rows (bad n place) h cs a r e = absurd (bad-got e)
 
   pub cases-split : (left at rows : ℕ) (cs : Cases) (a r : ℕ) → casesFrom s channels sub left at rows ≡ got cs a r → Split (countFrom s channels sub left at rows) cs a r
   unfolding casesFrom countFrom
-  cases-split zero at rows cs a r e =
-      split-by (λ at r. got nomore at r) (λ at r. got 0 at r) 0 at rows (caseBy s channels sub 0 (wordAt s at) rows) (case-sized s channels sub counts 0 (wordAt s at) rows) (λ n a r cs b m q. absurd (n refl)) cs a r e
-  cases-split (suc left) at rows cs a r e =
-      split-by (casesFrom s channels sub left) (countFrom s channels sub left) (suc left) at rows (caseBy s channels sub (suc left) (wordAt s at) rows) (case-sized s channels sub counts (suc left) (wordAt s at) rows) (λ _. cases-split left) cs a r e
+  cases-split =
+      many-by _ _ _ _ _ _ (λ left at rows p q. (cs : Cases) (a r : ℕ) → p ≡ got cs a r → Split q cs a r) split-none
+      (λ rest restc left at rows h. split-by rest restc at rows (caseBy s channels sub left (wordAt s at) rows) h)

@@ -7,13 +7,14 @@ use borrow.Author.Tests.{eqb-false}
 use lib.Dec.{eqb}
 use Rattle.text_reader.specs.Kinds.{Op, Word}
 use Rattle.meaning.specs.Numbers.{caseLimit, lapLimit, rowLimit}
-use Rattle.meaning.specs.Text.{Stmt, range, repeat, ifok, select, Body, empty, Cases, nomore}
+use Rattle.meaning.specs.Text.{Stmt, range, repeat, ifok, select, Body, empty, Cases}
 use Rattle.meaning.specs.Layout.{caseCount, sizeS, sizeB, sizeC}
 use Rattle.meaning.specs.laws.Tests.{cond-all}
 use Rattle.text_words.specs.Words.{noKind, elseKind, caseKind, defaultKind, endKind, closeKind, rangeKind, repeatKind, ifokKind, selectKind, stopKind, wordAt}
-use Rattle.text_reader.specs.Reading.{Part, got, none, bad, misplaced, number, closedBy, closed, port, opBy, secondBy, orMisplaced, caseOp, caseBy, lastBy, casesBy, casesFrom, stmtBy, bodyBy, bodyFrom}
+use Rattle.text_reader.specs.Reading.{Part, got, none, bad, misplaced, number, closedBy, closed, port, opBy, secondBy, orMisplaced, caseOp, caseBy, lastBy, casesFrom, stmtBy, bodyFrom}
 use Rattle.text_reader.specs.Answers.{isOp}
 use Rattle.text_reader.specs.laws.Parts.{All, bind-all, ways-all, row-all, block-all}
+use Rattle.text_reader.specs.laws.Many.{ahead-holds, many-holds}
 use Rattle.text_reader.specs.laws.Heads.{Kept, number-kept, port-kept, op-kept}
 
 -- A statement takes as many rows as its size says, and so does a body. `sub` reads bodies, and counts right.
@@ -63,16 +64,12 @@ module _ (s : List ℕ) (channels : ℕ) (sub : ℕ → ℕ → Part Body) (coun
       (λ _. bind-all (SizedB rows) (SizedC rows) (sub (w .next) rows) _ (counts (w .next) rows) (λ b at′ r′ e. omega arith))
       (λ _. omega arith)
 
-  cases-by : (rest : ℕ → ℕ → Part Cases) → ((at rows : ℕ) → All (SizedC rows) (rest at rows)) → (left at rows : ℕ) (p : Part (Op × Body)) → All (SizedCase left rows) p → All (SizedC rows) (casesBy s channels sub rest at rows p)
-  unfolding caseCount sizeC
-  cases-by rest h left at rows (got k at′ r) e = bind-all (SizedC r) (SizedC rows) (rest at′ r) _ (h at′ r) (λ cs at″ r″ e″. omega arith)
-  cases-by rest h left at rows none e = last-sized at (wordAt s at) rows
-  cases-by rest h left at rows (bad n place) e = tt
-
   pub cases-sized : (left at rows : ℕ) → All (SizedC rows) (casesFrom s channels sub left at rows)
   unfolding casesFrom caseCount sizeC
-  cases-sized zero at rows = cases-by (λ at r. got nomore at r) (λ at r. omega arith) 0 at rows (caseBy s channels sub 0 (wordAt s at) rows) (case-sized 0 (wordAt s at) rows)
-  cases-sized (suc left) at rows = cases-by (casesFrom s channels sub left) (cases-sized left) (suc left) at rows (caseBy s channels sub (suc left) (wordAt s at) rows) (case-sized (suc left) (wordAt s at) rows)
+  cases-sized left at rows =
+      many-holds _ _ _ (λ at rows. Unit {0}) (λ left rows k a r. SizedCase left rows k r) (λ left rows cs a r. SizedC rows cs r) _
+      (λ left at rows _. case-sized left (wordAt s at) rows) (λ left at rows _. last-sized at (wordAt s at) rows) (λ _ _ _ _ _ _ _ _. tt)
+      (λ left rows k a r cs c m e z. omega arith) left at rows tt
 
   second-sized : (b : Body) (at : ℕ) (w : Word) (rows r : ℕ) → rows < rowLimit → r ≡ rows + 1 + sizeB b → All (SizedS rows) (secondBy s channels sub b at w r)
   unfolding secondBy sizeS sizeB
@@ -102,15 +99,11 @@ module _ (s : List ℕ) (channels : ℕ) (sub : ℕ → ℕ → Part Body) (coun
       (λ _. block-all (SizedS rows) depth w _ rows (λ h. bind-all (SizedC (rows + 1)) (SizedS rows) (casesFrom s channels sub caseLimit (w .next) (rows + 1)) _ (cases-sized caseLimit (w .next) (rows + 1))
       (λ cs at r e. closed-sized s rows (select cs) at r (h, omega arith, omega arith)))) (λ _. tt)
 
-body-by : (rest : ℕ → ℕ → Part Body) → ((at rows : ℕ) → All (SizedB rows) (rest at rows)) → (at rows : ℕ) (p : Part Stmt) → All (SizedS rows) p → All (SizedB rows) (bodyBy rest at rows p)
-unfolding sizeB
-body-by rest h at rows (got x at′ r) e = bind-all (SizedB r) (SizedB rows) (rest at′ r) _ (h at′ r) (λ b at″ r″ e″. omega arith)
-body-by rest h at rows none e = omega arith
-body-by rest h at rows (bad n place) e = tt
-
 pub body-sized : (k : ℕ) (s : List ℕ) (channels depth at rows : ℕ) → All (SizedB rows) (bodyFrom k s channels depth at rows)
-unfolding bodyFrom
+unfolding bodyFrom sizeB
 body-sized zero s channels depth at rows = tt
 body-sized (suc k) s channels depth at rows =
-    body-by (bodyFrom k s channels depth) (body-sized k s channels depth) at rows (stmtBy s channels (bodyFrom k s channels (depth + 1)) depth (wordAt s at) rows)
-    (stmt-sized s channels (bodyFrom k s channels (depth + 1)) (body-sized k s channels (depth + 1)) depth (wordAt s at) rows)
+    let deeper = bodyFrom k s channels (depth + 1) in
+    ahead-holds _ (λ x a r. SizedS rows x r) (λ r b c m. SizedB r b m) (λ b c m. SizedB rows b m) _ (bodyFrom k s channels depth) _
+    (stmtBy s channels deeper depth (wordAt s at) rows) (stmt-sized s channels deeper (body-sized k s channels (depth + 1)) depth (wordAt s at) rows)
+    (λ x a r e. body-sized k s channels depth a r) (λ x a r b c m e z. omega arith) (omega arith)

@@ -1,7 +1,7 @@
 -- One lap over channels that the definitions read. Assumes nothing.
 use mathlib.Core.Path.{_≡_, refl, sym, ap, subst, _∙_}
 use mathlib.Core.List.{List, [], _∷_}
-use Prim.Native.Nat.{ℕ, zero, suc, _+_, _≤_}
+use Prim.Native.Nat.{ℕ, suc, _+_, _-_, _≤_}
 use native.Mathlib.Omega.{arith}
 use lib.Dec.{eqb}
 use lib.ListN.{length, set}
@@ -9,10 +9,10 @@ use lib.Seq.{sets}
 use Rattle.meaning.specs.Numbers.{capacityLimit}
 use Rattle.translate.specs.Kinds.{Word, NumberRead}
 use Rattle.text_words.specs.Words.{chanKind, wordAt}
-use Rattle.text_reader.specs.Reading.{Part, got, none, bad, number, chanBy, chansBy, chansFrom}
+use Rattle.text_reader.specs.Reading.{got, number, chanBy, chansFrom}
 use Rattle.text_reader.specs.Answers.{numberPart, NumberTold}
-use Rattle.text_reader.specs.laws.Parts.{none-got, bad-got, same-got, bind-got, All}
-use Rattle.text_reader.specs.laws.Heads.{Kept, number-kept}
+use Rattle.text_reader.specs.laws.Parts.{none-got, bad-got, same-got}
+use Rattle.text_reader.specs.laws.Many.{many-ways, many-got}
 use Rattle.text_laws.specs.laws.Kept as kept
 use Rattle.text_laws.specs.laws.Walk as walk
 use Rattle.translate_rows.specs.laws.Laps.{way-first, way-second}
@@ -29,33 +29,22 @@ pub record ChanLap (s : List ℕ) (left : ℕ) (w : Word) (ns : List ℕ) (a r :
   pub whole : ns ≡ one ∷ rest
 
 module _ (s : List ℕ) where
-  chan-number : (left : ℕ) (w : Word) {x a r : ℕ} → chanBy s left w 0 ≡ got x a r → (left ≡ 0 → ⊥) × (number s capacityLimit (w .next) 0 ≡ got x a r)
+  chan-number : (left : ℕ) (w : Word) {x a r : ℕ} → chanBy s left w 0 ≡ got x a r → number s capacityLimit (w .next) 0 ≡ got x a r
   unfolding chanBy
-  chan-number zero w e = absurd (bad-got (way-first (eqb (w .kind) chanKind) _ _ 0 e none-got))
-  chan-number (suc left) w e = (λ z. absurd (omega arith), way-second (eqb (suc left) 0) _ _ 0 (way-first (eqb (w .kind) chanKind) _ _ 0 e none-got) bad-got)
-
-  no-rows : (at : ℕ) {x a r : ℕ} → number s capacityLimit at 0 ≡ got x a r → r ≡ 0
-  no-rows at {x} {a} {r} e = let z : All (Kept 0) (got x a r) = rw e at (number-kept s capacityLimit 0 (wordAt s at)) in z
-
-  first-chan : (rest : ℕ → ℕ → Part (List ℕ)) (at : ℕ) (p : Part ℕ) {x : ℕ} {xs : List ℕ} {a r : ℕ} → chansBy s rest at 0 p ≡ got (x ∷ xs) a r
-      → (end : ℕ) × (n : ℕ) × (p ≡ got x end n) × (rest end n ≡ got xs a r)
-  first-chan rest at (got y end n) {x} {xs} {a} {r} e =
-      let g = bind-got (rest end n) (λ ns a r. got (y ∷ ns) a r) e in
-      (end, n, cc, cc)
-  first-chan rest at none {x} {xs} e = let z : _≡_ {A = ℕ} 0 (suc (length xs)) = ap length (same-got {A = List ℕ} {x = []} {y = x ∷ xs} e .0) in absurd (omega arith)
-  first-chan rest at (bad n place) e = absurd (bad-got e)
-
-  next-of : (left at : ℕ) {w : Word} {x end n : ℕ} {xs : List ℕ} {a r : ℕ} → w ≡ wordAt s at → chanBy s (suc left) (wordAt s at) 0 ≡ got x end n → chansFrom s left end n ≡ got xs a r → ChanLap s (suc left) w (x ∷ xs) a r
-  next-of left at {x = x} {end} {n} {xs} q e f =
-      let g = chan-number (suc left) (wordAt s at) e .1 in
-      let z = no-rows (wordAt s at .next) g in
-      record { one = x; rest = xs; end = end; fewer = left; left-is = refl; is = rw (z, ← q) at g; rest-is = rw z at f; whole = refl }
+  chan-number left w e = way-second (eqb left 0) _ _ 0 (way-first (eqb (w .kind) chanKind) _ _ 0 e none-got) bad-got
 
   pub chan-lap : (left at : ℕ) (ns : List ℕ) {w : Word} {a r : ℕ} → 1 ≤ length ns → w ≡ wordAt s at → chansFrom s left at 0 ≡ got ns a r → ChanLap s left w ns a r
   unfolding chansFrom
-  chan-lap left at [] l q e = absurd (omega arith)
-  chan-lap zero at (x ∷ xs) l q e = let f = first-chan (λ at r. got [] at r) at (chanBy s 0 (wordAt s at) 0) e in absurd (chan-number 0 (wordAt s at) (f .2) .0 refl)
-  chan-lap (suc left) at (x ∷ xs) l q e = let f = first-chan (chansFrom s left) at (chanBy s (suc left) (wordAt s at) 0) e in next-of left at q (f .2) (f .3)
+  chan-lap left at ns l q e =
+      many-ways _ _ _ left at 0 e
+      (λ x end n f.
+      let k = subst (kept.Kept s kept.Anywhere (kept.ChanRead left)) f (walk.chan-kept s kept.Anywhere (λ _. tt) left at 0 tt refl) .1 in
+      let g = f ∙ ap (got x end) (k .first) in
+      let z : suc (left - 1) ≡ left = omega (arith, k .some) in
+      let y = many-got _ _ _ left at 0 e g (left - 1) z in
+      let c = chan-number left (wordAt s at) g in
+      record { one = x; rest = y .0; end = end; fewer = left - 1; left-is = sym z; is = rw (← q) at c; rest-is = y .1; whole = y .2 })
+      (λ _ f. let z = ap length (same-got f .0) in absurd (omega arith))
 
 -- A channel's capacity is stored: what is left is those of the other channels.
 pub lap-capacities : {s : List ℕ} {left : ℕ} {w : Word} {ns : List ℕ} {a r : ℕ} (t : ChanLap s left w ns a r) (out : List ℕ) (base n : ℕ) {v : ℕ} {new : List ℕ}

@@ -7,7 +7,7 @@ use lib.ListN.{length, replicate}
 use Rattle.meaning.specs.Layout.{caseCount, sizeB, entry, caseRows, defaultRow, rowsB, rowsT, firstRows}
 use Rattle.meaning.specs.Bytes.{fieldsOf, rowBytes, firstBytes, imageBytes, jobImage}
 use Rattle.text_words.specs.Words.{wordAt, firstNotAllowed, kindOf, valueOf, startAt, nextAt, bytesAt, numeral, decimal, isNumber, onlyDigits, leadingZero, placeOf, differs, sameWord, reserved, run, inWord, isAllowed, isLetter, isDigit, isBlank}
-use Rattle.text_reader.specs.Reading.{bind, numberBy, closedBy, portBy, opBy, secondBy, caseOp, caseBy, lastBy, casesFrom, stmtBy, bodyFrom, chanBy, chansFrom, taskEnd, taskBy, tasksFrom, job, reading}
+use Rattle.text_reader.specs.Reading.{bind, many, numberBy, closedBy, portBy, opBy, secondBy, caseOp, caseBy, lastBy, casesFrom, stmtBy, bodyFrom, chanBy, chansFrom, taskEnd, taskBy, tasksFrom, job, reading}
 use Rattle.translate.specs.Kinds.{Translated, Image, Refused}
 use Rattle.translate.specs.Translated.{translatedTo, translated, writtenTo, written}
 
@@ -51,5 +51,5 @@ found : Example → Translated × List ℕ
 found e = (translated (e .text) (length (e .buffer)), written (e .text) (e .buffer))
 
 examples-hold : map found examples ≡ map (λ e. (e .answer, e .after)) examples
-unfolding found translated translatedTo written writtenTo reading job tasksFrom taskBy taskEnd chansFrom chanBy bodyFrom stmtBy casesFrom lastBy caseBy caseOp secondBy opBy portBy closedBy numberBy bind wordAt firstNotAllowed kindOf valueOf startAt nextAt bytesAt numeral decimal isNumber onlyDigits leadingZero placeOf differs sameWord reserved run inWord isAllowed isLetter isDigit isBlank caseCount sizeB entry caseRows defaultRow rowsB rowsT firstRows fieldsOf rowBytes firstBytes imageBytes jobImage
+unfolding found translated translatedTo written writtenTo reading job tasksFrom taskBy taskEnd chansFrom chanBy bodyFrom stmtBy casesFrom lastBy caseBy caseOp secondBy opBy portBy closedBy numberBy many bind wordAt firstNotAllowed kindOf valueOf startAt nextAt bytesAt numeral decimal isNumber onlyDigits leadingZero placeOf differs sameWord reserved run inWord isAllowed isLetter isDigit isBlank caseCount sizeB entry caseRows defaultRow rowsB rowsT firstRows fieldsOf rowBytes firstBytes imageBytes jobImage
 examples-hold = refl

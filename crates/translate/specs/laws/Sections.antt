@@ -12,6 +12,7 @@ use Rattle.text_reader.specs.Answers.{counted, ChansTold}
 use Rattle.text_laws.specs.laws.Kept.{Kept, Anywhere, ChansRead, JobRead}
 use Rattle.text_laws.specs.laws.Walk.{chans-kept, job-kept}
 use Rattle.text_reader.specs.laws.Parts.{bad-got, same-got, bind-got}
+use Rattle.text_reader.specs.laws.Many.{counted-done}
 
 -- The channels from the text's first byte on, and the tasks behind them, which no row stands ahead of.
 pub record Parts (s : List ℕ) (j : Job) (a rows : ℕ) : Type 0 where
@@ -47,10 +48,7 @@ module _ (s : List ℕ) where
 
   -- Where pass 1 says that the tasks begin.
   pub tasks-place : {v : Counted} {from before n : ℕ} {caps : List ℕ} {at r : ℕ} → v ≡ Counted.Done from before n → ChansTold s v → chansFrom s channelLimit 0 0 ≡ got caps at r → from ≡ at
-  unfolding counted
-  tasks-place {from = from} {before} {n} {caps} {at} {r} q h e =
-      let f : Counted.Done from before n ≡ Counted.Done at r (0 + length caps) = sym q ∙ h ∙ ap (counted length 0) e in
-      cc
+  tasks-place q h e = same-got (sym (counted-done length (chansFrom s channelLimit 0 0) (sym q ∙ h) .1) ∙ e) .1
 
   pub chans-there : {v : Counted} {caps : List ℕ} {at r : ℕ} → ((a r n : ℕ) → v ≡ Counted.Done a r n → ⊥) → ChansTold s v → chansFrom s channelLimit 0 0 ≡ got caps at r → ⊥
   unfolding counted

@@ -15,16 +15,17 @@ use Rattle.meaning.specs.Layout.{caseCount, sizeS, sizeB, sizeC, entry, caseRow
 use Rattle.image_rows.specs.Rows.{rowPut}
 use Rattle.image_laws.specs.laws.Rows.{caseRows-length, rowsS-length, rowsB-length}
 use Rattle.text_words.specs.Words.{noKind, elseKind, caseKind, defaultKind, endKind, wordAt}
-use Rattle.text_reader.specs.Reading.{Part, got, none, bad, bind, closedBy, closed, secondBy, orMisplaced, caseOp, caseBy, lastBy, casesBy, casesFrom, stmtBy, bodyBy, bodyFrom}
-use Rattle.text_reader.specs.Answers.{isStatement, told, counted, self, countBy, countFrom, opPart, OpTold, StmtTold, BodyTold, CaseTold, CasesTold, HeadTold}
-use Rattle.text_reader.specs.laws.Parts.{none-got, bad-got, same-got, bind-got, told-got, Stops, All, bind-all, ways-all, row-all}
+use Rattle.text_reader.specs.Reading.{Part, got, none, bad, bind, closedBy, closed, secondBy, orMisplaced, caseOp, caseBy, lastBy, casesFrom, stmtBy, bodyFrom}
+use Rattle.text_reader.specs.Answers.{isStatement, told, counted, self, countFrom, opPart, OpTold, StmtTold, BodyTold, CaseTold, CasesTold, HeadTold}
+use Rattle.text_reader.specs.laws.Parts.{none-got, bad-got, same-got, bind-got, told-got, Stops, All, bind-all, ways-all, row-all, Sure}
+use Rattle.text_reader.specs.laws.Many.{ahead-ways, ahead-got, ahead-last, many-got, many-last, counted-done, many-holds}
 use Rattle.text_reader.specs.laws.Heads as heads
 use Rattle.text_reader.specs.laws.Heads.{stmtOf, head-told, stmt-of, no-statement}
 use Rattle.text_reader.specs.laws.Sizes.{SizedS, SizedB, SizedC, stmt-sized, body-sized, cases-sized, case-op}
 use Rattle.text_reader.specs.laws.Selects.{behindCases, cases-split}
 use Rattle.text_reader.specs.laws.Bodies.{case-grows}
 use Rattle.text_laws.specs.laws.Kept.{Kept, Anywhere, BodyRead}
-use Rattle.text_laws.specs.laws.Decided.{Sure, body-sure, statement-sure}
+use Rattle.text_laws.specs.laws.Decided.{body-sure, statement-sure}
 use Rattle.text_laws.specs.laws.Walk.{body-kept}
 use Rattle.text_laws.specs.laws.Steps.{body-read, statement-read}
 use Rattle.translate_rows.specs.RowsPut.{rowsPut}
@@ -88,47 +89,35 @@ pub record Lap (s : List ℕ) (channels depth at rows a′ n : ℕ) (b : Body) (
   pub size : n ≡ rows + sizeS one
 
 module _ (s : List ℕ) (channels depth at rows : ℕ) where
-  by-then : (rest : ℕ → ℕ → Part Body) {p : Part Stmt} {x : Stmt} {a′ r′ : ℕ} {b : Body} {a r : ℕ} → p ≡ got x a′ r′ → bodyBy rest at rows p ≡ got b a r → (b′ : Body) × (rest a′ r′ ≡ got b′ a r) × (b ≡ x ▸ b′)
-  by-then rest {x = x} {a′} {r′} q e =
-      let g = bind-got (rest a′ r′) (λ b at rows. got (x ▸ b) at rows) (rw q at e) in
-      (g .0, cc, cc)
-
-  by-none : (rest : ℕ → ℕ → Part Body) (p : Part Stmt) {b : Body} {a r : ℕ} → Stops (told p) → bodyBy rest at rows p ≡ got b a r → b ≡ empty
-  unfolding told
-  by-none rest (got x a′ r′) h e = absurd h
-  by-none rest none h e = sym (same-got e .0)
-  by-none rest (bad n place) h e = absurd (bad-got e)
-
   pub lap : {a′ n : ℕ} {v : Read} → v ≡ Read.Done a′ n → StmtTold s channels depth at rows v → (m : ℕ) → rowLimit - rows < m → {b : Body} {a r : ℕ} → bodyFrom m s channels depth at rows ≡ got b a r → Lap s channels depth at rows a′ n b a r
   unfolding bodyFrom
   lap q h zero l e = absurd (omega arith)
   lap {a′} {n} q h (suc k) l e =
-      let g = told-got (stmtBy s channels (bodyFrom k s channels (depth + 1)) depth (wordAt s at) rows) (sym q ∙ h k (omega arith)) in
+      let p = stmtBy s channels (bodyFrom k s channels (depth + 1)) depth (wordAt s at) rows in
+      let g = told-got p (sym q ∙ h k (omega arith)) in
       let z : All (SizedS rows) (got (g .0) a′ n) = rw (g .1) at (stmt-sized s channels (bodyFrom k s channels (depth + 1)) (body-sized k s channels (depth + 1)) depth (wordAt s at) rows) in
-      let y = by-then (bodyFrom k s channels depth) (g .1) e in
+      let y = ahead-got _▸_ (bodyFrom k s channels depth) (got empty at rows) p e (g .1) in
       record { steps = k; one = g .0; rest = y .0; enough = omega arith; enough′ = omega (arith, z .1); is = g .1; rest-is = y .1; whole = y .2; size = z .2 }
 
   pub no-lap : {v : Read} → Stops v → StmtTold s channels depth at rows v → (m : ℕ) → rowLimit - rows < m → {b : Body} {a r : ℕ} → bodyFrom m s channels depth at rows ≡ got b a r → b ≡ empty
   unfolding bodyFrom
   no-lap q h zero l e = absurd (omega arith)
-  no-lap q h (suc k) l e = by-none (bodyFrom k s channels depth) (stmtBy s channels (bodyFrom k s channels (depth + 1)) depth (wordAt s at) rows) (rw (h k (omega arith)) at q) e
+  no-lap q h (suc k) l e =
+      let p = stmtBy s channels (bodyFrom k s channels (depth + 1)) depth (wordAt s at) rows in
+      sym (same-got (ahead-last _▸_ (bodyFrom k s channels depth) (got empty at rows) p e (rw (h k (omega arith)) at q)) .0)
 
 -- WHERE A BODY BEGINS
 
-entry-by : (rest : ℕ → ℕ → Part Body) (at rows i j : ℕ) (p : Part Stmt) {b : Body} {a r : ℕ} → Sure p → bodyBy rest at rows p ≡ got b a r → rowNo i ≡ entry b i j
-unfolding entry
-entry-by rest at rows i j (got x a′ r′) {b} h e = let g = bind-got (rest a′ r′) (λ b a r. got (x ▸ b) a r) e in rw (sym (same-got (g .4) .0))
-entry-by rest at rows i j none h e = absurd h
-entry-by rest at rows i j (bad n place) h e = absurd (bad-got e)
-
 module _ (s : List ℕ) (at : ℕ) where
   pub entry-there : (i j : ℕ) {w : Word} → w ≡ wordAt s at → isStatement (w .kind) ≡ true → FirstTold s at i j (rowNo i)
-  unfolding bodyFrom
+  unfolding bodyFrom entry
   entry-there i j q t zero channels depth rows b a r e = absurd (bad-got e)
   entry-there i j q t (suc k) channels depth rows b a r e =
       let f : isStatement (wordAt s at .kind) ≡ true = rw q at t in
-      entry-by (bodyFrom k s channels depth) at rows i j (stmtBy s channels (bodyFrom k s channels (depth + 1)) depth (wordAt s at) rows)
-      (statement-sure s channels (bodyFrom k s channels (depth + 1)) (λ a r. body-sure s k channels (depth + 1) a r) depth (wordAt s at) rows f) e
+      let p = stmtBy s channels (bodyFrom k s channels (depth + 1)) depth (wordAt s at) rows in
+      let y : Sure p = statement-sure s channels (bodyFrom k s channels (depth + 1)) (body-sure s k channels (depth + 1)) depth (wordAt s at) rows f in
+      ahead-ways _▸_ (bodyFrom k s channels depth) (got empty at rows) p e
+      (λ x a′ r′ q. rw (ahead-got _▸_ (bodyFrom k s channels depth) (got empty at rows) p e q .2)) (λ q _. absurd (rw q at y))
 
   pub entry-behind : (i j : ℕ) {w : Word} → w ≡ wordAt s at → isStatement (w .kind) ≡ false → FirstTold s at i j (rowNo j)
   unfolding bodyFrom entry
@@ -209,26 +198,18 @@ module _ (s : List ℕ) (channels : ℕ) (sub : ℕ → ℕ → Part Body) where
   case-oper left at rows (OpRead.Refused m place) n h e = bad-got (rw (h (rows + 1)) at (case-split left at rows e))
 
 module _ (k : ℕ) (s : List ℕ) (channels depth left at rows : ℕ) where
-  cases-first : {x : Op × Body} {a′ n : ℕ} {cs : Cases} {a r : ℕ} (rest : ℕ → ℕ → Part Cases) {p : Part (Op × Body)} → p ≡ got x a′ n
-      → casesBy s channels (bodyFrom k s channels depth) rest at rows p ≡ got cs a r → (ds : Cases) × (rest a′ n ≡ got ds a r) × (cs ≡ case (x .0) (x .1) ds)
-  cases-first {x} {a′} {n} rest q e =
-      let g = bind-got (rest a′ n) (λ cs at rows. got (case (x .0) (x .1) cs) at rows) (rw q at e) in
-      (g .0, cc, cc)
-
   pub case-lap : {a′ n : ℕ} {v : Read} {o : OpRead} {op : Op} {next : ℕ} {cs : Cases} {a r : ℕ} → rowLimit ≤ k + rows → v ≡ Read.Done a′ n → CaseTold s channels depth at rows left v
       → o ≡ OpRead.Got op next → OpTold s channels (wordAt s (wordAt s at .next)) o → casesFrom s channels (bodyFrom k s channels depth) left at rows ≡ got cs a r
       → CaseLap k s channels depth left at rows a′ n op next cs a r
   unfolding casesFrom
-  case-lap {a′} {n} {v} {o} {op} {next} {cs} {a} {r} l q h p f e = go left refl e
-    where
-      go : (m : ℕ) → left ≡ m → casesFrom s channels (bodyFrom k s channels depth) m at rows ≡ got cs a r → CaseLap k s channels depth left at rows a′ n op next cs a r
-      go zero z e = absurd (case-grows s channels depth at rows left q h .2 z)
-      go (suc m) z e =
-          let g = told-got (caseBy s channels (bodyFrom k s channels depth) left (wordAt s at) rows) (sym q ∙ h k l) in
-          let t = case-parts s channels (bodyFrom k s channels depth) left at rows p f (g .1) in
-          let b : All (SizedB (rows + 1)) (got (t .0) a′ n) = rw (t .1) at (body-sized k s channels depth next (rows + 1)) in
-          let y = cases-first (casesFrom s channels (bodyFrom k s channels depth) m) (sym (ap (λ (m : ℕ). caseBy s channels (bodyFrom k s channels depth) m (wordAt s at) rows) z) ∙ g .1) e in
-          record { one = t .0; rest = y .0; fewer = m; left-is = z; is = t .1; rest-is = y .1; whole = y .2 ∙ ap (λ (x : Op × Body). case (x .0) (x .1) (y .0)) (t .2); size = b }
+  case-lap {a′} {n} {v} {o} {op} {next} {cs} {a} {r} l q h p f e =
+      let g = told-got (caseBy s channels (bodyFrom k s channels depth) left (wordAt s at) rows) (sym q ∙ h k l) in
+      let t = case-parts s channels (bodyFrom k s channels depth) left at rows p f (g .1) in
+      let b : All (SizedB (rows + 1)) (got (t .0) a′ n) = rw (t .1) at (body-sized k s channels depth next (rows + 1)) in
+      let z : suc (left - 1) ≡ left = omega (arith, case-grows s channels depth at rows left q h .2) in
+      let y = many-got _ _ _ left at rows e (g .1) (left - 1) z in
+      let w = y .2 ∙ ap (λ (x : Op × Body). case (x .0) (x .1) (y .0)) (t .2) in
+      record { one = t .0; rest = y .0; fewer = left - 1; left-is = sym z; is = t .1; rest-is = y .1; whole = w; size = b }
 
   pub no-oper : {a′ n : ℕ} {v : Read} (o : OpRead) → rowLimit ≤ k + rows → v ≡ Read.Done a′ n → CaseTold s channels depth at rows left v
       → ((op : Op) (next : ℕ) → o ≡ OpRead.Got op next → ⊥) → OpTold s channels (wordAt s (wordAt s at .next)) o → ⊥
@@ -236,22 +217,11 @@ module _ (k : ℕ) (s : List ℕ) (channels depth left at rows : ℕ) where
       let g = told-got (caseBy s channels (bodyFrom k s channels depth) left (wordAt s at) rows) (sym q ∙ h k l) in
       case-oper s channels (bodyFrom k s channels depth) left at rows o t f (g .1)
 
-  cases-none : (rest : ℕ → ℕ → Part Cases) (p : Part (Op × Body)) {cs : Cases} {a r : ℕ} → Stops (told p) → casesBy s channels (bodyFrom k s channels depth) rest at rows p ≡ got cs a r
-      → lastBy s channels (bodyFrom k s channels depth) at (wordAt s at) rows ≡ got cs a r
-  unfolding told
-  cases-none rest (got x a′ r′) h e = absurd h
-  cases-none rest none h e = e
-  cases-none rest (bad n place) h e = absurd (bad-got e)
-
   -- Where no case stands, the default is due.
   pub no-case : {v : Read} {cs : Cases} {a r : ℕ} → rowLimit ≤ k + rows → Stops v → CaseTold s channels depth at rows left v → casesFrom s channels (bodyFrom k s channels depth) left at rows ≡ got cs a r
       → lastBy s channels (bodyFrom k s channels depth) at (wordAt s at) rows ≡ got cs a r
   unfolding casesFrom
-  no-case {v} {cs} {a} {r} l q h e = go left (rw (h k l) at q) e
-    where
-      go : (m : ℕ) → Stops (told (caseBy s channels (bodyFrom k s channels depth) m (wordAt s at) rows)) → casesFrom s channels (bodyFrom k s channels depth) m at rows ≡ got cs a r → lastBy s channels (bodyFrom k s channels depth) at (wordAt s at) rows ≡ got cs a r
-      go zero q e = cases-none (λ at r. got nomore at r) (caseBy s channels (bodyFrom k s channels depth) zero (wordAt s at) rows) q e
-      go (suc m) q e = cases-none (casesFrom s channels (bodyFrom k s channels depth) m) (caseBy s channels (bodyFrom k s channels depth) (suc m) (wordAt s at) rows) q e
+  no-case l q h e = many-last _ _ _ left at rows e (rw (h k l) at q)
 
 -- ROOM behind cases
 
@@ -285,24 +255,17 @@ module _ (s : List ℕ) (channels depth : ℕ) where
       let z : All Roomy (got (g .0) a r) = rw (g .1) at (case-roomy left at rows) in
       z
 
-  count-by : (rest : ℕ → ℕ → Part ℕ) (at rows : ℕ) (p : Part (Op × Body)) → rows ≤ rowLimit → All Roomy p → ((a r : ℕ) → r ≤ rowLimit → All Roomy (rest a r)) → All Roomy (countBy rest at rows p)
-  count-by rest at rows (got x a r) l h f = bind-all Roomy Roomy (rest a r) _ (f a r h) (λ n a r e. e)
-  count-by rest at rows none l h f = l
-  count-by rest at rows (bad n place) l h f = tt
-
   count-roomy : (left at rows : ℕ) → rows ≤ rowLimit → All Roomy (countFrom s channels (bodyFrom (suc rowLimit) s channels depth) left at rows)
   unfolding countFrom
-  count-roomy zero at rows l = count-by (λ at r. got 0 at r) at rows (caseBy s channels (bodyFrom (suc rowLimit) s channels depth) zero (wordAt s at) rows) l (case-roomy zero at rows) (λ a r h. h)
-  count-roomy (suc left) at rows l = count-by (countFrom s channels (bodyFrom (suc rowLimit) s channels depth) left) at rows (caseBy s channels (bodyFrom (suc rowLimit) s channels depth) (suc left) (wordAt s at) rows) l (case-roomy (suc left) at rows) (count-roomy left)
-
-  counted-room : (p : Part ℕ) {a r n : ℕ} → Counted.Done a r n ≡ counted self 0 p → All Roomy p → r ≤ rowLimit
-  unfolding counted
-  counted-room (got x a′ r′) {r = r} e h = let q : r ≡ r′ = cc in omega arith
-  counted-room none e h = absurd (let z : _≡_ {A = ℕ} 0 1 = cc in omega arith)
-  counted-room (bad n place) e h = absurd (let z : _≡_ {A = ℕ} 0 1 = cc in omega arith)
+  count-roomy =
+      many-holds _ _ _ (λ at rows. rows ≤ rowLimit) (λ left rows k a r. r ≤ rowLimit) (λ left rows n a r. r ≤ rowLimit) _
+      (λ left at rows _. case-roomy left at rows) (λ left at rows h. h) (λ left at rows k a r _ h. h) (λ left rows k a r n c m _ h. h)
 
   pub cases-room : (at rows : ℕ) {a r n : ℕ} {v : Counted} → rows ≤ rowLimit → v ≡ Counted.Done a r n → CasesTold s channels depth at rows v → r ≤ rowLimit
-  cases-room at rows l e h = counted-room (countFrom s channels (bodyFrom (suc rowLimit) s channels depth) caseLimit at rows) (sym e ∙ h (suc rowLimit) (omega arith)) (count-roomy caseLimit at rows l)
+  cases-room at rows {a} {r} l e h =
+      let g = counted-done self (countFrom s channels (bodyFrom (suc rowLimit) s channels depth) caseLimit at rows) (sym e ∙ h (suc rowLimit) (omega arith)) in
+      let z : All Roomy (got (g .0) a r) = rw (g .1) at (count-roomy caseLimit at rows l) in
+      z
 
 -- ROWS LAID BEHIND EACH OTHER
 
@@ -448,24 +411,19 @@ pub record Chosen (k : ℕ) (s : List ℕ) (channels depth at rows b m n : ℕ) 
   pub last-is : lastBy s channels (bodyFrom k s channels depth) b (wordAt s b) m ≡ got (behindCases cases) end total
   pub size : m + sizeC (behindCases cases) ≡ rows + caseCount cases + sizeC cases
 
-counted-got : {v : Counted} {a m n : ℕ} (p : Part ℕ) {c b r : ℕ} → v ≡ Counted.Done a m n → v ≡ counted self 0 p → p ≡ got c b r → (a ≡ b) × (m ≡ r) × (n ≡ c)
-unfolding counted
-counted-got {a = a} {m} {n} p {c} {b} {r} q h e =
-    let f : Counted.Done a m n ≡ Counted.Done b r (0 + c) = sym q ∙ h ∙ ap (counted self 0) e in
-    let z : n ≡ 0 + c = cc in
-    (cc, cc, omega arith)
-
 pub chosen : (k : ℕ) (s : List ℕ) (channels depth at rows : ℕ) {b m n : ℕ} {v : Counted} {x : Stmt} {a r : ℕ} → rowLimit - rows < k → v ≡ Counted.Done b m n → CasesTold s channels depth at rows v
     → bind (casesFrom s channels (bodyFrom k s channels depth) caseLimit at rows) (λ cs at r. closed s (select cs) at r) ≡ got x a r → Chosen k s channels depth at rows b m n x
 chosen k s channels depth at rows {b} {m} {n} l q h e =
     let sub = bodyFrom k s channels depth in
     let g = bind-got (casesFrom s channels sub caseLimit at rows) (λ cs at r. closed s (select cs) at r) e in
     let t = cases-split s channels sub (body-sized k s channels depth) caseLimit at rows (g .0) (g .1) (g .2) (g .3) in
-    let i = counted-got (countFrom s channels sub caseLimit at rows) q (h k l) (t .2) in
+    let d = counted-done self (countFrom s channels sub caseLimit at rows) (sym q ∙ h k l) in
+    let i = same-got (sym (d .1) ∙ t .2) in
     let z : All (SizedC rows) (got (g .0) (g .1) (g .2)) = rw (g .3) at (cases-sized s channels sub (body-sized k s channels depth) caseLimit at rows) in
-    let f : lastBy s channels sub b (wordAt s b) m ≡ got (behindCases (g .0)) (g .1) (g .2) = rw (i .0, i .1) (t .3) in
+    let f : lastBy s channels sub b (wordAt s b) m ≡ got (behindCases (g .0)) (g .1) (g .2) = rw (i .1, i .2) (t .3) in
     let y = last-size k s channels depth b m f in
-    record { cases = g .0; end = g .1; total = g .2; is = g .3; whole = closed-got s (select (g .0)) (g .1) (g .2) (g .4); count = i .2; last-is = f; size = omega arith }
+    let w = closed-got s (select (g .0)) (g .1) (g .2) (g .4) in
+    record { cases = g .0; end = g .1; total = g .2; is = g .3; whole = w; count = d .2 ∙ i .0; last-is = f; size = omega arith }
 
 pub no-cases : (k : ℕ) (s : List ℕ) (channels depth at rows : ℕ) {v : Counted} {x : Stmt} {a r : ℕ} → rowLimit - rows < k → ((a r n : ℕ) → v ≡ Counted.Done a r n → ⊥) → CasesTold s channels depth at rows v
     → bind (casesFrom s channels (bodyFrom k s channels depth) caseLimit at rows) (λ cs at r. closed s (select cs) at r) ≡ got x a r → ⊥

@@ -1,8 +1,8 @@
 -- One lap over tasks that the definitions read, by what the reader answers there. Assumes nothing.
-use mathlib.Core.Path.{_≡_, refl, sym, ap, _∙_}
+use mathlib.Core.Path.{_≡_, sym, ap, _∙_}
 use mathlib.Core.Bool.{Bool, true, false, cond}
 use mathlib.Core.List.{List, [], _∷_}
-use Prim.Native.Nat.{ℕ, zero, suc, _+_, _-_, _≤_, _<_}
+use Prim.Native.Nat.{ℕ, suc, _+_, _-_, _≤_, _<_}
 use native.Mathlib.Omega.{arith}
 use lib.Dec.{eqb, ltb}
 use lib.ListN.{length}
@@ -17,9 +17,10 @@ use lib.Seq.{sets}
 use Rattle.image_rows.specs.Rows.{rowPut}
 use Rattle.image_laws.specs.laws.Rows.{rowsB-length}
 use Rattle.text_words.specs.Words.{noKind, taskKind, endKind, wordAt}
-use Rattle.text_reader.specs.Reading.{Part, got, none, bad, bodyFrom, body, taskEnd, taskBy, tasksBy, tasksFrom}
-use Rattle.text_reader.specs.Answers.{told, TaskTold}
+use Rattle.text_reader.specs.Reading.{got, none, bad, bodyFrom, body, taskEnd, taskBy, tasksFrom}
+use Rattle.text_reader.specs.Answers.{TaskTold}
 use Rattle.text_reader.specs.laws.Parts.{none-got, bad-got, same-got, bind-got, told-got, Stops, All, bind-all, ways-all, row-all}
+use Rattle.text_reader.specs.laws.Many.{many-got, many-last}
 use Rattle.text_reader.specs.laws.Sizes.{SizedB, body-sized}
 use Rattle.text_reader.specs.laws.Jobs.{tasks-step}
 use Rattle.translate_rows.specs.RowsPut.{rowsPut}
@@ -82,38 +83,21 @@ pub record TaskLap (s : List ℕ) (channels left : ℕ) (w : Word) (rows a′ n 
   pub size : n ≡ suc (rows + sizeB one)
 
 module _ (s : List ℕ) (channels left at rows : ℕ) where
-  tasks-first : {x : Body} {a′ n : ℕ} {bs : List Body} {a r : ℕ} (rest : ℕ → ℕ → Part (List Body)) {p : Part Body} → p ≡ got x a′ n → tasksBy s rest at rows p ≡ got bs a r
-      → (ds : List Body) × (rest a′ n ≡ got ds a r) × (bs ≡ x ∷ ds)
-  tasks-first {x} {a′} {n} rest q e = let g = bind-got (rest a′ n) (λ bs at rows. got (x ∷ bs) at rows) (rw q at e) in (g .0, cc, cc)
-
   pub task-lap : {a′ n : ℕ} {v : Read} {w : Word} {bs : List Body} {a r : ℕ} → v ≡ Read.Done a′ n → TaskTold s channels at rows left v → w ≡ wordAt s at → tasksFrom s channels left at rows ≡ got bs a r
       → TaskLap s channels left w rows a′ n bs a r
   unfolding tasksFrom
-  task-lap {a′} {n} {v} {w} {bs} {a} {r} q h p e = go left refl e
-    where
-      go : (m : ℕ) → left ≡ m → tasksFrom s channels m at rows ≡ got bs a r → TaskLap s channels left w rows a′ n bs a r
-      go zero z e = absurd (tasks-step s channels left at rows 0 q h .0 z)
-      go (suc m) z e =
-          let g = told-got (taskBy s channels left (wordAt s at) rows) (sym q ∙ h) in
-          let f : taskBy s channels left w rows ≡ got (g .0) a′ n = ap (λ (u : Word). taskBy s channels left u rows) p ∙ g .1 in
-          let t = task-body s channels left w rows f in
-          let b : All (SizedT s channels rows) (got (g .0) a′ n) = rw (g .1) at (task-sized s channels left (wordAt s at) rows) in
-          let y = tasks-first (tasksFrom s channels m) (sym (ap (λ (m : ℕ). taskBy s channels m (wordAt s at) rows) z) ∙ g .1) e in
-          record { one = g .0; rest = y .0; fewer = m; left-is = z; end = t .0; total = t .1; is = t .2; rest-is = y .1; whole = y .2; size = b .0 }
-
-  tasks-none : (rest : ℕ → ℕ → Part (List Body)) (p : Part Body) {bs : List Body} {a r : ℕ} → Stops (told p) → tasksBy s rest at rows p ≡ got bs a r → bs ≡ []
-  unfolding told
-  tasks-none rest (got x a′ r′) h e = absurd h
-  tasks-none rest none h e = sym (same-got e .0)
-  tasks-none rest (bad n place) h e = absurd (bad-got e)
+  task-lap {a′} {n} {v} {w} {bs} {a} {r} q h p e =
+      let g = told-got (taskBy s channels left (wordAt s at) rows) (sym q ∙ h) in
+      let f : taskBy s channels left w rows ≡ got (g .0) a′ n = ap (λ (u : Word). taskBy s channels left u rows) p ∙ g .1 in
+      let t = task-body s channels left w rows f in
+      let b : All (SizedT s channels rows) (got (g .0) a′ n) = rw (g .1) at (task-sized s channels left (wordAt s at) rows) in
+      let z : suc (left - 1) ≡ left = omega (arith, tasks-step s channels left at rows 0 q h .0) in
+      let y = many-got _ _ _ left at rows e (g .1) (left - 1) z in
+      record { one = g .0; rest = y .0; fewer = left - 1; left-is = sym z; end = t .0; total = t .1; is = t .2; rest-is = y .1; whole = y .2; size = b .0 }
 
   pub tasks-done : {v : Read} {bs : List Body} {a r : ℕ} → Stops v → TaskTold s channels at rows left v → tasksFrom s channels left at rows ≡ got bs a r → bs ≡ []
   unfolding tasksFrom
-  tasks-done {v} {bs} {a} {r} q h e = go left (rw h at q) e
-    where
-      go : (m : ℕ) → Stops (told (taskBy s channels m (wordAt s at) rows)) → tasksFrom s channels m at rows ≡ got bs a r → bs ≡ []
-      go zero q e = tasks-none (λ at r. got [] at r) (taskBy s channels zero (wordAt s at) rows) q e
-      go (suc m) q e = tasks-none (tasksFrom s channels m) (taskBy s channels (suc m) (wordAt s at) rows) q e
+  tasks-done q h e = sym (same-got (many-last _ _ _ left at rows e (rw h at q)) .0)
 
 -- A task's rows are rowsPut, its stop row last: what is left is the other tasks.
 task-laid : (out : List ℕ) (i : ℕ) (b : Body) (bs : List Body)
