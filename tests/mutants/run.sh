@@ -21,7 +21,7 @@ cd "$(dirname "$0")/../.." || exit 2
 root=$(pwd -P)
 here=$root/tests/mutants
 work=$root/target/mutants
-worked='Examples.antt Table.antt'
+worked='^[a-z_]*/specs/laws/Examples\.antt:\|^agreement/specs/laws/Table\.antt:'
 command -v rt >/dev/null || { echo "rt, the command of the Rattle kit, is not on the path" >&2; exit 2; }
 RT_JOBS=${RT_JOBS:-1}
 RT_CUT=0
@@ -35,7 +35,7 @@ deps_of() { sed 's/#.*//' "$root/crates.txt" | sed -n "s/^ *$1 *: *//p"; }
 
 # The crates that rest on $1, the crate itself first, in an order in which each follows what it rests on; ahead of others those that
 # are quick and have tables of examples.
-soon='image_rows image_check text_words text_reader'
+soon='image_rows image_row image_check text_words text_reader'
 above() {
     reached=" $1 "
     echo "$1"
@@ -162,8 +162,7 @@ try() { # EDIT TREE
             if ! (cd "$work/$2" && rt check "$c") >"$work/said" 2>&1; then
                 cp "$work/$2/target/log/$c.out" "$work/log/$label.$2" 2>/dev/null
                 errors=$(grep -o "^[^ ]*: error: [^:]*" "$work/$2/target/log/$c.out" | sed "s|^.*/crates/||; s|: error: | |")
-                at=''
-                for w in $worked; do [ -n "$at" ] || at=$(printf '%s\n' "$errors" | grep "/specs/laws/$w:" | head -n 1); done
+                at=$(printf '%s\n' "$errors" | grep "$worked" | head -n 1)
                 class=a
                 [ -n "$at" ] || { class=b at=$(printf '%s\n' "$errors" | head -n 1); }
                 case $errors in *"${file#crates/}:"*) class=bad at=$(printf '%s\n' "$errors" | grep "${file#crates/}:" | head -n 1) ;; esac

@@ -1,5 +1,4 @@
 pub mod Kinds
 pub mod Check
-pub mod Table
 pub mod Sound
 pub mod laws

@@ -1,4 +1,3 @@
 -- What is proved of the definitions: nothing here has to be believed.
-pub mod Table
 pub mod Sound
 pub mod Examples

@@ -1,14 +1,15 @@
-// The image check of document 01, 'What comes back': refusals 21 to 28 in their order, with their places. One pass over the
-// rows, in place: the number of case rows still to come is all that it carries from row to row. Once the counts are good and the
-// distance does not reach ahead of the slice, every byte that is read is there, and no read asks for the slice's end again.
+// The image check of document 01, 'What comes back': refusals 21 to 28 in their order, with their places. One pass over the rows, in
+// place: each is asked of crate image_row, and the number of case rows still to come is all that is carried from row to row. Once
+// the counts are good and the distance does not reach ahead of the slice, every byte that is read is there. The row test answers
+// every slice and so asks again whether it is; that does not change along the pass, and the compiler asks it once.
 ghost use mathlib.Core.Path.{_≡_};
 ghost use Prim.Native.Nat.{_+_, _*_, _≤_};
 ghost use lib.ListN.{length};
 ghost use Rattle.meaning.specs.Bytes.{rowSize, spanOf};
 ghost use Rattle.image_check.specs.Check.{rowBad, capacityBad, firstRowBad, firstOf, bodyChecked, countsGood, checked};
-
-pub mod row;
-
+use image_row::is_target;
+use image_row::owed_behind;
+use image_row::row_passes;
 use image_rows::Counts;
 use image_rows::bytes::body_of;
 use image_rows::bytes::byte_at;
@@ -32,9 +33,6 @@ use meaning::sizes::ROW_SIZE;
 use meaning::sizes::ROWS;
 use meaning::sizes::TASKS;
 use meaning::sizes::TRAILER_SIZE;
-use row::owed_behind;
-use row::row_good;
-use row::target_good;
 
 // What the check answers: good, or the refusal's number and place.
 pub enum Checked {
@@ -56,7 +54,7 @@ fn first_bad_row(body: &[u8], rows: u16, channels: u8) -> First
     let mut owed: u8 = 0;
     let mut i: u16 = 0;
     while i < rows {
-        if row_good(body, rows, channels, Row(i), owed) {
+        if row_passes(body, rows, channels, Row(i), owed) {
             owed = owed_behind(body, Row(i), owed);
             i = i + 1;
         } else {
@@ -90,7 +88,7 @@ fn first_bad_first_row(body: &[u8], rows: u16, channels: u8, tasks: u8) -> First
     let mut t: u8 = 0;
     while t < tasks {
         let at = firsts + 2 * (t as usize);
-        if target_good(body, rows, Row(two_of(body[at], body[at + 1]))) {
+        if is_target(body, rows, Row(two_of(body[at], body[at + 1]))) {
             t = t + 1;
         } else {
             return First::At(t as u16);

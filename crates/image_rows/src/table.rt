@@ -3,7 +3,7 @@ ghost use mathlib.Core.Path.{_≡_};
 ghost use Prim.Native.Nat.{_+_, _≤_};
 ghost use lib.ListN.{length};
 ghost use lib.Seq.{sets};
-ghost use Rattle.image_rows.specs.Rows.{rowPut};
+ghost use Rattle.image_rows.specs.Rows.{fieldsPut, rowPut};
 ghost use Rattle.image_rows.specs.Kinds.{Do, Select, Case};
 ghost use Rattle.meaning.specs.Image.{rowNo};
 ghost use Rattle.meaning.specs.Bytes.{portOf, otherwiseOf, fieldsOf, statementOf, bytesOf, fieldsAt, fieldsOfRow, rowsIn, capacityIn, firstRowIn};
@@ -22,7 +22,8 @@ use meaning::port_number;
 use meaning::sizes::NIL;
 use meaning::sizes::ROW_SIZE;
 
-fn port_of(n: u8) -> Port
+// The port that a channel byte names; 255 is nil.
+pub fn port_of(n: u8) -> Port
     ensures { λ r. ⌜ r ≡ portOf n ⌝ }
 {
     if n == NIL {
@@ -51,8 +52,9 @@ fn fields_at(body: &[u8], i: usize) -> Fields
     }
 }
 
-// The fields of the row at number n of an image that begins with row 0; all 0 where the slice ends ahead of the row's end.
-fn fields_no(body: &[u8], n: u32) -> Fields
+// The fields of the row at number n of an image that begins with row 0; all 0 where the slice ends ahead of the row's end. The number
+// of a case row is counted on from its select's and may be more than a `Row` can say.
+pub fn fields_no(body: &[u8], n: u32) -> Fields
     ensures { λ f. ⌜ f ≡ fieldsOfRow (now (body .entry)) (rowNo n) ⌝ }
 {
     let at = ROW_SIZE * (n as usize);
@@ -115,13 +117,6 @@ pub fn statement_at(body: &[u8], r: Row) -> Statement
     ensures { λ s. ⌜ s ≡ rowsIn (now (body .entry)) r ⌝ }
 {
     statement_of(fields_of_row(body, r))
-}
-
-// The statement of a case row, whose number is counted on from its select's: it may be more than the number of a row can say.
-pub fn case_at(body: &[u8], n: u32) -> Statement
-    ensures { λ s. ⌜ s ≡ rowsIn (now (body .entry)) (rowNo n) ⌝ }
-{
-    statement_of(fields_no(body, n))
 }
 
 // The capacity of channel c, behind so many rows.
@@ -264,7 +259,8 @@ pub fn fields_of(s: Statement) -> Fields
     }
 }
 
-fn put_fields(out: &mut [u8], i: usize, f: Fields)
+// The eight bytes of a row's fields from i on.
+fn put_eight(out: &mut [u8], i: usize, f: Fields)
     requires { ⌜ i + 8 ≤ length (now out) ⌝ }
     ensures { λ _. ⌜ now (out .exit) ≡ sets (now (out .entry)) i (bytesOf f) ⌝ }
 {
@@ -280,11 +276,18 @@ fn put_fields(out: &mut [u8], i: usize, f: Fields)
 
 // Stores row r of an image that begins with row 0 at the buffer's start: eight bytes, and no other. Where they would pass
 // the buffer's end, nothing is stored.
-pub fn put_row(out: &mut [u8], r: Row, s: Statement)
-    ensures { λ _. ⌜ now (out .exit) ≡ rowPut (now (out .entry)) r s ⌝ }
+pub fn put_fields(out: &mut [u8], r: Row, f: Fields)
+    ensures { λ _. ⌜ now (out .exit) ≡ fieldsPut (now (out .entry)) r f ⌝ }
 {
     let at = ROW_SIZE * (r.0 as usize);
     if at + ROW_SIZE <= out.len() {
-        put_fields(out, at, fields_of(s));
+        put_eight(out, at, f);
     }
+}
+
+// The same of the row of a statement.
+pub fn put_row(out: &mut [u8], r: Row, s: Statement)
+    ensures { λ _. ⌜ now (out .exit) ≡ rowPut (now (out .entry)) r s ⌝ }
+{
+    put_fields(out, r, fields_of(s));
 }

@@ -22,14 +22,14 @@ unfolding firstRowBad firstRowIn
 loop-again c =
     let l = c .before .before .before .before .before .before .loop in
     let below = c .before .before .before .before .before .loop-test .taken in
-    (omega arith, rw (first-step, ← c .before .before .two-of .ensures, ← c .before .target-good .ensures, c .if1 .taken) at (l .inv .1))
+    (omega arith, rw (first-step, ← c .before .before .two-of .ensures, ← c .before .is-target .ensures, c .if1 .taken) at (l .inv .1))
 
 returns : tie.Need-returns Inv-loop μ-loop
 unfolding firstRowBad firstRowIn
 returns c =
     let l = c .before .before .before .before .before .before .loop in
     let below = c .before .before .before .before .before .loop-test .taken in
-    rw (l .inv .1, first-step, ← c .before .before .two-of .ensures, ← c .before .target-good .ensures, c .if1 .left)
+    rw (l .inv .1, first-step, ← c .before .before .two-of .ensures, ← c .before .is-target .ensures, c .if1 .left)
 
 returns-2 : tie.Need-returns-2 Inv-loop μ-loop
 unfolding firstOf

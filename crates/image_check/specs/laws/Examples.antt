@@ -6,7 +6,8 @@ use Prim.Native.Nat.{ℕ}
 use Rattle.meaning.specs.Bytes.{fieldsOf, statementOf, trailerOf, distance, markOf, versionOf, bodyOf, fieldsOfRow, capacityIn, firstRowIn}
 use Rattle.image_rows.specs.Rows.{countsIn, countsOf}
 use Rattle.image_check.specs.Kinds.{Checked, Good, Refused}
-use Rattle.image_check.specs.Check.{inTable, owedAfter, portGood, opGood, isCaseRow, owedAt, isTarget, otherwiseGood, casesFollow, capacityBad, statementGood, rowGood, rowBad, firstRowBad, firstOf, refusedAt, bodyChecked, countsGood, checked}
+use Rattle.image_row.specs.Row.{inTable, owedAfter, portGood, opGood, isCaseRow, isTarget, otherwiseGood, casesFollow, statementGood, rowGood}
+use Rattle.image_check.specs.Check.{owedAt, capacityBad, rowBad, firstRowBad, firstOf, refusedAt, bodyChecked, countsGood, checked}
 
 abbrev Bytes : Type 0
 Bytes = List ℕ
@@ -35,10 +36,6 @@ three a b c = a ++ b ++ c ++ stopRow ++ (0 ∷ 0 ∷ 0 ∷ []) ++ trailer 4 1 1 
 -- A stop row; behind it capacities, first rows and the trailer.
 abbrev stopAnd : Bytes → Bytes → Bytes → Bytes
 stopAnd caps firsts t = stopRow ++ caps ++ firsts ++ t
-
--- Eight case rows, `case recv 0` to row n.
-abbrev cases8 : ℕ → Bytes
-cases8 n = row 11 0 0 n 0 ++ row 11 0 0 n 0 ++ row 11 0 0 n 0 ++ row 11 0 0 n 0 ++ row 11 0 0 n 0 ++ row 11 0 0 n 0 ++ row 11 0 0 n 0 ++ row 11 0 0 n 0
 
 record Example : Type 0 where
   image : Bytes
@@ -73,71 +70,11 @@ examples =
     -- a good one, and behind bytes that are not its own
     ∷ example (stopAnd [] (0 ∷ 0 ∷ []) (trailer 1 0 1 10)) Good
     ∷ example (1 ∷ 2 ∷ 3 ∷ stopAnd [] (0 ∷ 0 ∷ []) (trailer 1 0 1 10)) Good
-    -- good rows: send, forward, recv, close, on nil, range, repeat, ifok, select, select with default
-    ∷ example (one (row 1 0 255 1 0)) Good
-    ∷ example (one (1 ∷ 0 ∷ 255 ∷ 255 ∷ 1 ∷ 0 ∷ 0 ∷ 0 ∷ [])) Good
-    ∷ example (one (row 2 0 0 1 0)) Good
-    ∷ example (one (row 3 0 0 0 0)) Good
-    ∷ example (one (row 4 0 0 1 0)) Good
-    ∷ example (one (row 3 255 0 1 0)) Good
-    ∷ example (one (row 5 0 0 0 1)) Good
-    ∷ example (one (row 6 5 255 0 1)) Good
-    ∷ example (one (row 7 0 0 1 0)) Good
-    ∷ example (one (row 8 0 0 0 0)) Good
-    ∷ example (one (row 8 0 1 1 0)) Good
-    -- 26: op 0 and op 13
-    ∷ example (one (row 0 0 0 0 0)) (Refused 26 0)
+    -- 26: a row that image_row's table finds bad, and good ones; a select's cases; a capacity of 11 behind the last row is no case row
     ∷ example (one (row 13 0 0 0 0)) (Refused 26 0)
-    -- chan: no such channel, at each op that names one; depth 6; 9 cases that do follow; 8 pass
-    ∷ example (one (row 1 1 0 1 0)) (Refused 26 0)
-    ∷ example (one (row 2 1 0 1 0)) (Refused 26 0)
-    ∷ example (one (row 3 1 0 1 0)) (Refused 26 0)
-    ∷ example (one (row 4 1 0 1 0)) (Refused 26 0)
-    ∷ example (one (row 5 254 0 0 1)) (Refused 26 0)
-    ∷ example (one (row 6 6 1 0 1)) (Refused 26 0)
-    ∷ example (row 8 8 0 0 0 ++ cases8 9 ++ stopRow ++ (0 ∷ 0 ∷ 0 ∷ []) ++ trailer 10 1 1 83) Good
-    ∷ example (row 8 9 0 0 0 ++ cases8 10 ++ row 11 0 0 10 0 ++ stopRow ++ (0 ∷ 0 ∷ 0 ∷ []) ++ trailer 11 1 1 91) (Refused 26 0)
-    -- arg: N 256; a default mark of 2
-    ∷ example (one (6 ∷ 0 ∷ 0 ∷ 1 ∷ 0 ∷ 0 ∷ 1 ∷ 0 ∷ [])) (Refused 26 0)
-    ∷ example (one (row 8 0 2 1 0)) (Refused 26 0)
-    -- an unused field that is not 0
-    ∷ example (one (row 1 0 5 1 1)) (Refused 26 0)
-    ∷ example (one (row 2 0 1 1 0)) (Refused 26 0)
-    ∷ example (one (row 3 0 1 1 0)) (Refused 26 0)
-    ∷ example (one (row 4 0 0 1 1)) (Refused 26 0)
-    ∷ example (one (row 5 0 1 0 1)) (Refused 26 0)
-    ∷ example (one (row 7 1 0 1 1)) (Refused 26 0)
-    ∷ example (one (row 7 0 1 1 1)) (Refused 26 0)
-    ∷ example (one (row 8 0 0 1 0)) (Refused 26 0)
-    ∷ example (one (row 8 0 1 1 1)) (Refused 26 0)
-    ∷ example (one (row 12 0 0 1 0)) (Refused 26 0)
-    -- a target that isn't a row, in each field that names one
-    ∷ example (one (row 1 0 0 2 0)) (Refused 26 0)
-    ∷ example (one (row 4 0 0 2 0)) (Refused 26 0)
-    ∷ example (one (row 5 0 0 2 1)) (Refused 26 0)
-    ∷ example (one (row 5 0 0 1 2)) (Refused 26 0)
-    ∷ example (one (row 6 0 1 2 1)) (Refused 26 0)
-    ∷ example (one (row 6 0 1 1 2)) (Refused 26 0)
-    ∷ example (one (row 7 0 0 2 1)) (Refused 26 0)
-    ∷ example (one (row 7 0 0 1 2)) (Refused 26 0)
-    ∷ example (one (row 8 0 1 2 0)) (Refused 26 0)
-    -- cases: send, forward and recv behind their select; the fields of a case row
+    ∷ example (one (row 3 255 0 1 0)) Good
     ∷ example (two (row 8 1 0 0 0) (row 9 0 7 2 0)) Good
-    ∷ example (two (row 8 1 0 0 0) (row 10 0 0 2 0)) Good
-    ∷ example (two (row 8 1 0 0 0) (row 11 255 0 0 0)) Good
-    ∷ example (two (row 8 1 0 0 0) (row 9 1 7 2 0)) (Refused 26 1)
-    ∷ example (two (row 8 1 0 0 0) (row 10 0 1 2 0)) (Refused 26 1)
-    ∷ example (two (row 8 1 0 0 0) (row 11 0 0 2 1)) (Refused 26 1)
-    ∷ example (two (row 8 1 0 0 0) (row 11 0 0 3 0)) (Refused 26 1)
-    -- a target that is a case row: of a statement, of a default, of the case itself
-    ∷ example (three (row 1 0 0 2 0) (row 8 1 0 0 0) (row 9 0 0 3 0)) (Refused 26 0)
-    ∷ example (three (row 1 0 0 2 0) (row 8 1 0 0 0) (row 11 0 0 3 0)) (Refused 26 0)
-    ∷ example (two (row 8 1 1 1 0) (row 11 0 0 2 0)) (Refused 26 0)
-    ∷ example (two (row 8 1 0 0 0) (row 11 0 0 1 0)) (Refused 26 1)
-    -- fewer case rows than a select names follow it at once
     ∷ example (two (row 8 2 0 0 0) (row 11 0 0 2 0)) (Refused 26 0)
-    ∷ example (row 8 1 0 0 0 ++ (0 ∷ 0 ∷ 0 ∷ []) ++ trailer 1 1 1 11) (Refused 26 0)
-    -- a capacity of 11 behind the last row is no case row
     ∷ example (row 8 1 0 0 0 ++ (11 ∷ 0 ∷ 0 ∷ []) ++ trailer 1 1 1 11) (Refused 26 0)
     -- a case row that isn't one of those: behind no select, behind a select of none, behind a select's last
     ∷ example (two (row 3 0 0 0 0) (row 11 0 0 2 0)) (Refused 26 1)

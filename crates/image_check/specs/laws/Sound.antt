@@ -15,7 +15,8 @@ use Rattle.meaning.specs.Bytes.{fields, statementOf, trailerSize, imageMark, im
 use Rattle.meaning.specs.laws.Tests.{both}
 use Rattle.meaning.specs.laws.Ops.{beyond, by-op}
 use Rattle.image_rows.specs.Rows.{countsIn, countsOf}
-use Rattle.image_check.specs.Check.{isCaseOp, inTable, owedAt, isCaseRow, isTarget, portGood, opGood, otherwiseGood, casesFollow, statementGood, rowGood, rowBad, capacityBad, firstRowBad, firstOf, refusedAt, bodyChecked, countsGood, checked}
+use Rattle.image_row.specs.Row.{isCaseOp, inTable, isCaseRow, isTarget, portGood, opGood, otherwiseGood, casesFollow, statementGood, rowGood}
+use Rattle.image_check.specs.Check.{owedAt, rowBad, capacityBad, firstRowBad, firstOf, refusedAt, bodyChecked, countsGood, checked}
 use Rattle.image_check.specs.Sound.{isCase, PortSound, OpSound, Target, OtherwiseSound, Followed, StatementSound, Sound}
 
 and-false-at : (a b : Bool) → b ≡ false → (a && b) ≡ false

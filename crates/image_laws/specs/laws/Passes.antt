@@ -15,7 +15,8 @@ use Rattle.meaning.specs.Image.{rowNo, chanNo, taskNo}
 use Rattle.meaning.specs.Layout.{rowsT}
 use Rattle.meaning.specs.Bytes.{fieldsOf, statementOf, trailerSize, imageMark, imageVersion, spanOf, jobImage, markOf, versionOf, rowCount, channelCount, taskCount, distance, fieldsOfRow, rowsIn, capacityIn, firstRowIn, tabulate}
 use Rattle.image_rows.specs.Rows.{countsIn, countsOf}
-use Rattle.image_check.specs.Check.{sameFields, inTable, isCaseOp, owedAfter, portGood, opGood, isCaseRow, owedAt, isTarget, otherwiseGood, casesFollow, capacityBad, statementGood, rowGood, rowBad, firstRowBad, firstOf, refusedAt, bodyChecked, countsGood, checked}
+use Rattle.image_row.specs.Row.{sameFields, inTable, isCaseOp, owedAfter, portGood, opGood, isCaseRow, isTarget, otherwiseGood, casesFollow, statementGood, rowGood}
+use Rattle.image_check.specs.Check.{owedAt, capacityBad, rowBad, firstRowBad, firstOf, refusedAt, bodyChecked, countsGood, checked}
 use Rattle.image_check.specs.Sound.{isCase, PortSound}
 use Rattle.meaning_laws.specs.Lists.{All}
 use Rattle.image_laws.specs.Proper.{ProperOp, Proper}

@@ -12,7 +12,7 @@ use Rattle.meaning.specs.Numbers.{caseLimit, lapLimit, depthLimit}
 use Rattle.meaning.specs.Text.{Stmt, operate, close, stop, range, repeat, ifok, select, Body, empty, _▸_, Cases, nomore, default, case}
 use Rattle.meaning.specs.Image.{rowNo, Rows}
 use Rattle.meaning.specs.Layout.{caseCount, sizeS, sizeB, sizeC, entry, caseRows, defaultRow, rowsS, rowsB, rowsC, rowsT, firstRows}
-use Rattle.image_check.specs.Check.{owedAfter}
+use Rattle.image_row.specs.Row.{owedAfter}
 use Rattle.image_check.specs.Sound.{isCase, PortSound}
 use Rattle.meaning_laws.specs.Lists.{All}
 use Rattle.image_laws.specs.Proper.{ProperOp, ProperS, ProperB, ProperC}

@@ -1,9 +1,16 @@
-use native.Mathlib.Omega.{arith}
-use lib.ListN.{length-set}
-use native.Mathlib.Numerals.{towards-suc}
+use borrow.Author.Tests.{le-leb, lt-leb}
+use Rattle.image_rows.specs.Rows.{fieldsPut}
 use borrow.Author.Needs.{needs}
 use Rattle.image_rows.proofs.table.put_fields.Statement.{statement}
 use Rattle.image_rows.proofs.table.put_fields.Tie as tie
+
+returns : tie.Need-returns
+unfolding fieldsPut
+returns c = rw (c .before .before .put-eight .ensures, le-leb _ _ (c .before .before .before .before .if1 .taken))
+
+returns-2 : tie.Need-returns-2
+unfolding fieldsPut
+returns-2 c = rw (lt-leb _ _ (c .if1 .left))
 
 pub put-fields-spec : {M : Type 1} → statement M
 put-fields-spec =
@@ -11,24 +18,8 @@ put-fields-spec =
     (tie.spec
     (λ c. search needs)
     (λ c. search needs)
-    (λ c. simp length-set (omega arith))
     (λ c. search needs)
+    (λ c κs. search needs)
     (λ c. search needs)
-    (λ c. simp length-set (omega arith))
-    (λ c. search needs)
-    (λ c. search needs)
-    (λ c. simp length-set (omega arith))
-    (λ c. search needs)
-    (λ c. search needs)
-    (λ c. simp length-set (omega arith))
-    (λ c. search needs)
-    (λ c. search needs)
-    (λ c. simp length-set (omega arith))
-    (λ c. search needs)
-    (λ c. search needs)
-    (λ c. simp length-set (omega arith))
-    (λ c. search needs)
-    (λ c. search needs)
-    (λ c. simp length-set (omega arith))
-    (λ c. simp length-set (omega arith))
-    (λ c. simp towards-suc))
+    returns
+    returns-2)
