@@ -5,11 +5,11 @@ use mathlib.Core.List.{List}
 use Prim.Native.Nat.{ℕ, suc, _+_, _-_, _≤_, _<_}
 use lib.Dec.{eqb, leb, ltb}
 use lib.ListN.{length}
-use Rattle.text_reader.specs.Kinds.{Port, Op, Send, Forward, Recv, Word, Read, Counted, NumberRead, PortRead, OpRead, Head, Reading}
-use Rattle.meaning.specs.Numbers.{channelLimit, taskLimit, caseLimit, valueLimit, lapLimit, depthLimit, rowLimit, wordOutOfPlace, tooDeep, rowsFull, cutShort}
+use Rattle.text_reader.specs.Kinds.{Port, Op, Send, Forward, Recv, Word, Read, Counted, NumberRead, PortRead, OpRead, CaseHead, Head, Reading}
+use Rattle.meaning.specs.Numbers.{channelLimit, taskLimit, caseLimit, valueLimit, lapLimit, depthLimit, rowLimit, wordOutOfPlace, oneTooMany, tooDeep, rowsFull, cutShort}
 use Rattle.meaning.specs.Text.{Stmt, select, Body, Job}
-use Rattle.text_words.specs.Words.{noKind, sendKind, forwardKind, recvKind, closeKind, rangeKind, repeatKind, ifokKind, selectKind, stopKind, wordAt}
-use Rattle.text_reader.specs.Reading.{Part, got, none, bad, bind, many, number, closed, port, opBy, secondBy, caseBy, lastBy, casesFrom, stmtBy, bodyFrom, chanBy, chansFrom, taskEnd, taskBy, tasksFrom}
+use Rattle.text_words.specs.Words.{noKind, taskKind, sendKind, forwardKind, recvKind, closeKind, rangeKind, repeatKind, ifokKind, selectKind, stopKind, wordAt}
+use Rattle.text_reader.specs.Reading.{Part, got, none, bad, bind, many, number, closed, port, opBy, secondBy, caseOp, caseBy, lastBy, casesFrom, stmtBy, bodyFrom, chanBy, chansFrom, taskEnd, taskBy, tasksFrom}
 
 -- THE ANSWERS
 
@@ -49,6 +49,11 @@ unfoldable pub opPart : ℕ → OpRead → Part Op
 opPart rows (OpRead.Got o at) = got o at rows
 opPart rows OpRead.Nothing = none
 opPart rows (OpRead.Refused n place) = bad n place
+
+unfoldable pub casePart : CaseHead → Part Op
+casePart (CaseHead.Got o at rows) = got o at rows
+casePart CaseHead.Nothing = none
+casePart (CaseHead.Refused n place) = bad n place
 
 -- LEAVES
 
@@ -120,6 +125,16 @@ module _ (s : List ℕ) (channels : ℕ) where
   abbrev pub HeadTold : ℕ → ℕ → ℕ → Head → Type 0
   HeadTold depth at rows r = r ≡ headBy depth rows (wordAt s at)
 
+-- A case is its head and then its body, whatever reads that body, `sub`. (One that takes no word and no row shows that there is one
+-- answer alone.)
+module _ (s : List ℕ) (channels : ℕ) where
+  abbrev pub CaseOpTold : ℕ → Word → CaseHead → Type 0
+  CaseOpTold rows w r = (sub : ℕ → ℕ → Part Body) → caseOp s channels sub w rows ≡ casePart r
+
+  abbrev pub CaseHeadTold : ℕ → ℕ → ℕ → CaseHead → Type 0
+  CaseHeadTold at rows left r =
+      (sub : ℕ → ℕ → Part Body) → caseBy s channels sub left (wordAt s at) rows ≡ bind (casePart r) (λ o at r. bind (sub at r) (λ b at r. got (o, b) at r))
+
 -- STATEMENTS AND BODIES, whatever number of steps the definitions are given, if it is enough for the rows that are left.
 
 module _ (s : List ℕ) (channels : ℕ) where
@@ -164,6 +179,15 @@ module _ (s : List ℕ) where
 
   abbrev pub ChansTold : Counted → Type 0
   ChansTold r = r ≡ counted length 0 (chansFrom s channelLimit 0 0)
+
+  -- The head of a task, with so many left: none where the text has stopped.
+  unfoldable pub taskHead : ℕ → ℕ → Word → Read
+  taskHead left rows w =
+      cond (eqb (w .kind) taskKind) (cond (eqb left 0) (Read.Refused oneTooMany (w .start)) (Read.Done (w .next) rows))
+      (cond (eqb (w .kind) noKind) Read.Nothing (Read.Refused wordOutOfPlace (w .start)))
+
+  abbrev pub TaskHeadTold : ℕ → ℕ → ℕ → Read → Type 0
+  TaskHeadTold at rows left r = r ≡ taskHead left rows (wordAt s at)
 
   abbrev pub TaskEndTold : ℕ → ℕ → Read → Type 0
   TaskEndTold at rows r = (b : Body) → r ≡ told (taskEnd s b (wordAt s at) rows)

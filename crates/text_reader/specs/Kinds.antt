@@ -11,5 +11,6 @@ pub use Rattle.text_reader.specs.declared.Counted.{Counted}
 pub use Rattle.text_reader.specs.declared.NumberRead.{NumberRead}
 pub use Rattle.text_reader.specs.declared.PortRead.{PortRead}
 pub use Rattle.text_reader.specs.declared.OpRead.{OpRead}
+pub use Rattle.text_reader.specs.declared.CaseHead.{CaseHead}
 pub use Rattle.text_reader.specs.declared.Head.{Head}
 pub use Rattle.text_reader.specs.declared.Reading.{Reading}

@@ -12,17 +12,14 @@ use crate::PortRead;
 use crate::Read;
 use crate::kinds::CLOSE;
 use crate::kinds::CUT_SHORT;
-use crate::kinds::DEPTH_LIMIT;
 use crate::kinds::FORWARD;
 use crate::kinds::IFOK;
-use crate::kinds::LAP_LIMIT;
 use crate::kinds::NIL;
 use crate::kinds::NUMBER_DUE;
 use crate::kinds::NUMBER_OVER_RANGE;
 use crate::kinds::RANGE;
 use crate::kinds::RECV;
 use crate::kinds::REPEAT;
-use crate::kinds::ROW_LIMIT;
 use crate::kinds::ROWS_FULL;
 use crate::kinds::SELECT;
 use crate::kinds::SEND;
@@ -33,6 +30,9 @@ use crate::kinds::WORD_OUT_OF_PLACE;
 use meaning::Chan;
 use meaning::Op;
 use meaning::Port;
+use meaning::sizes::DEPTH;
+use meaning::sizes::LAPS;
+use meaning::sizes::ROWS;
 use text_words::NO_WORD;
 use text_words::NUMBER;
 use text_words::Word;
@@ -170,7 +170,7 @@ fn is_block(kind: u8) -> bool
 }
 
 // Whether a word of this kind begins a statement, and so needs a row.
-pub fn is_statement(kind: u8) -> bool
+fn is_statement(kind: u8) -> bool
     ensures { λ r. ⌜ r ≡ isStatement kind ⌝ }
 {
     if is_op(kind) {
@@ -189,7 +189,7 @@ fn is_too_deep(kind: u8, depth: u8) -> bool
     ensures { λ r. ⌜ r ≡ isTooDeep kind depth ⌝ }
 {
     if is_block(kind) {
-        DEPTH_LIMIT <= depth
+        DEPTH <= depth
     } else {
         false
     }
@@ -226,7 +226,7 @@ fn range_head(text: &[u8], channels: u8, at: usize) -> Head
 fn repeat_head(text: &[u8], at: usize) -> Head
     ensures { λ r. ⌜ r ≡ headOf Head.Repeat (number (now (text .entry)) lapLimit at 0) ⌝ }
 {
-    match read_number(text, LAP_LIMIT, at) {
+    match read_number(text, LAPS, at) {
         NumberRead::Refused(why, place) => Head::Refused(why, place),
         NumberRead::Got(n, next) => Head::Repeat(n, next),
     }
@@ -274,7 +274,7 @@ pub fn read_head(text: &[u8], channels: u8, depth: u8, at: usize, rows: u16) -> 
     if is_too_deep(kind, depth) {
         return Head::Refused(TOO_DEEP, w.start);
     }
-    if ROW_LIMIT <= rows {
+    if ROWS <= rows {
         return Head::Refused(ROWS_FULL, w.start);
     }
     read_operands(text, channels, w)

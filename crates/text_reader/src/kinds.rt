@@ -1,4 +1,6 @@
-// The kinds of the reserved words, the limits and the refusals of document 01, each number under one name.
+// The kinds of the reserved words, the limits of a text beside those of meaning::sizes, and the refusals of document 01, each number
+// under one name.
+use meaning::sizes::CELLS;
 
 pub const CHAN: u8 = 1;
 
@@ -34,21 +36,9 @@ pub const NIL: u8 = 16;
 
 pub const TEXT_LIMIT: usize = 16384;
 
-pub const CHANNEL_LIMIT: u8 = 16;
-
-pub const CAPACITY_LIMIT: u16 = 16;
-
-pub const TASK_LIMIT: u8 = 16;
-
-pub const CASE_LIMIT: u8 = 8;
+pub const CAPACITY_LIMIT: u16 = CELLS as u16;
 
 pub const VALUE_LIMIT: u16 = 65535;
-
-pub const LAP_LIMIT: u16 = 255;
-
-pub const DEPTH_LIMIT: u8 = 6;
-
-pub const ROW_LIMIT: u16 = 1024;
 
 pub const TEXT_TOO_LONG: u8 = 1;
 

@@ -1,12 +1,11 @@
-// The reader of a job text: pass 1 of the translator, which decides every refusal before a byte is written. It reads by recursive
-// descent, as specs/Reading.antt does, and carries numbers alone: a place in the text, the rows so far, the depth, the channels.
+// The reader of a job text, word by word: each function decides one word or a few, with the refusals that fall due there, and carries
+// numbers alone: a place in the text, the rows so far, the depth, the channels. Pass 1 of the translator strings them together by
+// recursive descent, as specs/Reading.antt does, and so has every refusal from here before a byte is written.
 use meaning::Op;
 use meaning::Port;
 
 pub mod heads;
-pub mod jobs;
 pub mod kinds;
-pub mod statements;
 
 // What reading a part of the text answers: the place behind it and the rows so far; that no such part stands here; or a
 // refusal's number and place.
@@ -35,6 +34,13 @@ pub enum PortRead {
 
 pub enum OpRead {
     Got(Op, usize),
+    Nothing,
+    Refused(u8, usize),
+}
+
+// The first words of a case, down to its body: its operation, the place behind it and the rows then.
+pub enum CaseHead {
+    Got(Op, usize, u16),
     Nothing,
     Refused(u8, usize),
 }

@@ -10,7 +10,7 @@ use lib.Dec.{ltb}
 use lib.ListN.{length, getD, drop}
 use Rattle.meaning.specs.laws.Tests.{cond-all}
 use Rattle.text_words.specs.Words.{isDigit, onlyDigits, leadingZero, decimal, numberCap, numeral}
-use Rattle.text_words.specs.Scan.{front, digitsFrom, valueBy}
+use Rattle.text_words.specs.Scan.{front, valueMore, digitsFrom, valueBy}
 use Rattle.text_words.specs.laws.Words.{run-more, run-stop, run-end, digit-bounds, digit-at}
 use Rattle.text_words.proofs.Fronts.{front-more, front-stop, front-end}
 
@@ -27,7 +27,7 @@ decimal-mod v (b ∷ w) =
 -- The digits of a text from a place on: one digit further, at the byte that is none, and at the text's end.
 module _ (text : List ℕ) (v i : ℕ) where
   pub digits-more : i < length text → isDigit (getD text i 0) ≡ true
-      → digitsFrom text ((10 * v + (getD text i 0 - 48)) % 2 ^ 32) (i + 1) ≡ digitsFrom text v i
+      → digitsFrom text (valueMore v (getD text i 0)) (i + 1) ≡ digitsFrom text v i
   unfolding digitsFrom decimal
   digits-more h e =
       let w = front isDigit (drop (i + 1) text) in

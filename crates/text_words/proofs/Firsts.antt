@@ -3,7 +3,7 @@
 use mathlib.Core.Path.{_≡_, refl, sym, ap, _∙_}
 use mathlib.Core.Bool.{Bool, true, false, true≢false, not, _&&_, and-false}
 use mathlib.Core.List.{List, []}
-use Prim.Native.Nat.{ℕ, _+_, _-_, _*_, _%_, _^_, _≤_, _<_}
+use Prim.Native.Nat.{ℕ, _+_, _-_, _%_, _^_, _≤_, _<_}
 use native.Mathlib.Nat.{add-sub-cancel-left}
 use native.Mathlib.Omega.{arith}
 use borrow.Author.Tests.{eq-eqb, ne-eqb, eqb-true, eqb-false, le-ltb, ltb-true, ltb-false, not-true}
@@ -11,13 +11,15 @@ use lib.Dec.{eqb, ltb}
 use lib.ListN.{length, getD, take, drop}
 use lib.Seq.{getD-drop, drop-drop}
 use Rattle.meaning.specs.laws.Tests.{both}
+use Rattle.text_keys.specs.Keys.{keyMore, keyOf}
+use Rattle.text_keys.specs.laws.Keys.{Bytes}
 use Rattle.text_words.specs.Kinds.{Letters, Digits}
 use Rattle.text_words.specs.Words.{isBlank, isDigit, inWord, run, reserved, placeOf, onlyDigits, leadingZero, isNumber, decimal}
 use Rattle.text_words.specs.Words.{numberKind, otherKind, kindOf, valueOf, startAt, nextAt, bytesAt, wordAt}
-use Rattle.text_words.specs.Scan.{front, bytesFrom, keyMore, keyOf, lettersFrom, kindBy, digitsFrom, zeroLed, endsAt, numberBy, valueBy, wordFrom}
+use Rattle.text_words.specs.Scan.{front, bytesFrom, lettersFrom, kindBy, valueMore, digitsFrom, zeroLed, endsAt, numberBy, valueBy, wordFrom}
 use Rattle.text_words.specs.laws.Words.{at-each, run-more, run-stop, digit-bounds, place-word, number-kind, number-digits, number-unled}
-use Rattle.text_words.proofs.Fronts.{front-take, front-length, front-get, run-on, run-front}
-use Rattle.text_words.proofs.Keys.{Bytes, kind-by-key, letters-more}
+use Rattle.text_words.proofs.Fronts.{front-take, front-length, front-get, run-on, run-front, ends-here}
+use Rattle.text_words.proofs.Keys.{kind-by-key, letters-more}
 use Rattle.text_words.proofs.Decimals.{digits-more, value-told}
 
 pub word-from : (text : List ℕ) (at : ℕ) → wordFrom text (startAt text at) ≡ wordAt text at
@@ -86,12 +88,9 @@ module _ (text : List ℕ) (start : ℕ) (within : start < length text) where
             absurd (true≢false (sym e ∙ ap isDigit (sym (first-byte (digit-in-word first e))) ∙ q))
         go false t = ltb-false (placeOf word) 16 t
 
-    module _ {v : ℕ} (digit : v ≡ first - 48) {d : Digits} (read : d ≡ digitsFrom text v (start + 1)) where
+    module _ {v : ℕ} (begun : v ≡ valueMore 0 first) {d : Digits} (read : d ≡ digitsFrom text v (start + 1)) where
       digits-all : d ≡ digitsFrom text 0 start
-      digits-all =
-          let f = digit-bounds first e in
-          let m : (10 * 0 + (first - 48)) % 2 ^ 32 ≡ v = omega arith in
-          read ∙ rw m at (digits-more text 0 start within e)
+      digits-all = read ∙ rw (← begun) at (digits-more text 0 start within e)
 
       value-is : d .value ≡ decimal 0 (front isDigit here) % 2 ^ 32
       unfolding digitsFrom
@@ -156,7 +155,7 @@ module _ (text : List ℕ) (start : ℕ) (within : start < length text) where
 
     module _ {key : ℕ} (begun : key ≡ keyMore 0 first) {l : Letters} (read : l ≡ lettersFrom text key (start + 1)) where
       letters-all : l ≡ lettersFrom text 0 start
-      letters-all = read ∙ rw (← begun) at (letters-more text 0 start within byte-in-word)
+      letters-all = read ∙ rw (← begun) at (letters-more text 0 start (sym (ends-here text start within) ∙ e))
 
       key-is : l .key ≡ keyOf word
       unfolding lettersFrom

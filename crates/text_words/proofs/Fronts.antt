@@ -6,13 +6,13 @@ use Prim.Native.Nat.{ℕ, suc, _+_, _≤_, _<_}
 use native.Mathlib.Nat.{zero-add}
 use native.Mathlib.Numerals.{add-one}
 use native.Mathlib.Omega.{arith}
-use borrow.Author.Tests.{lt-ltb, eq-eqb, ne-eqb}
-use lib.Dec.{eqb, ltb, leb·suc-suc}
+use borrow.Author.Tests.{lt-ltb, eq-eqb, ne-eqb, ltb-true, ltb-false}
+use lib.Dec.{ltb, leb·suc-suc}
 use lib.ListN.{length, getD, take, drop, drop-of-length-le}
 use lib.Seq.{drop-cons, getD-take, length-take-le}
 use Rattle.text_words.specs.Words.{isBlank, inWord, run}
-use Rattle.text_words.specs.Scan.{front}
-use Rattle.text_words.specs.laws.Words.{run-within, run-more, run-stop}
+use Rattle.text_words.specs.Scan.{front, endsAt}
+use Rattle.text_words.specs.laws.Words.{run-within, run-more, run-stop, run-end}
 
 module _ {A : Type 0} (p : A → Bool) where
   -- One step further, at the element that stops it, and at the list's end.
@@ -92,11 +92,22 @@ module _ {A : Type 0} (p q : A → Bool) (narrower : (x : A) → p x ≡ true �
       go false true e f r = rw e
       go false false e f r = refl
 
--- A word that comes to a place ends there if a blank does.
-pub ends-here : (text : List ℕ) (i : ℕ) → i < length text → isBlank (getD text i 0) ≡ eqb (run inWord (drop i text)) 0
+-- A word that comes to a place ends there if a blank does; where it does not end, it has a byte there.
+pub ends-here : (text : List ℕ) (i : ℕ) → i < length text → isBlank (getD text i 0) ≡ endsAt text i
 unfolding inWord
 ends-here text i h = go (isBlank (getD text i 0)) refl
   where
-    go : (b : Bool) → isBlank (getD text i 0) ≡ b → b ≡ eqb (run inWord (drop i text)) 0
+    go : (b : Bool) → isBlank (getD text i 0) ≡ b → b ≡ endsAt text i
     go true e = sym (eq-eqb (run inWord (drop i text)) 0 (omega (arith, run-stop inWord text i 0 h (rw e))))
     go false e = sym (ne-eqb (run inWord (drop i text)) 0 (λ q. omega (arith, run-more inWord text i 0 h (rw e))))
+
+pub ends-past : (text : List ℕ) (i : ℕ) → length text ≤ i → true ≡ endsAt text i
+ends-past text i h = sym (eq-eqb (run inWord (drop i text)) 0 (omega (arith, run-end inWord text i h)))
+
+pub goes-on : (text : List ℕ) (i : ℕ) → endsAt text i ≡ false → (i < length text) × (inWord (getD text i 0) ≡ true)
+unfolding inWord
+goes-on text i e = go (ltb i (length text)) refl
+  where
+    go : (b : Bool) → ltb i (length text) ≡ b → (i < length text) × (inWord (getD text i 0) ≡ true)
+    go true t = let h = ltb-true i (length text) t in (h, rw (ends-here text i h, e))
+    go false t = absurd (true≢false (ends-past text i (ltb-false i (length text) t) ∙ e))

@@ -2,9 +2,10 @@
 -- tells the word of `Words` is proved.
 use mathlib.Core.Bool.{Bool, cond, not, _&&_}
 use mathlib.Core.List.{List, [], _∷_}
-use Prim.Native.Nat.{ℕ, _+_, _-_, _*_, _/_, _%_, _^_, min}
+use Prim.Native.Nat.{ℕ, _+_, _-_, _*_, _%_, _^_, min}
 use lib.Dec.{eqb, ltb}
 use lib.ListN.{length, getD, drop}
+use Rattle.text_keys.specs.Keys.{gathered, keyOf, searched}
 use Rattle.text_words.specs.Kinds.{Word, Letters, Digits}
 use Rattle.text_words.specs.Words.{isDigit, inWord, run, reserved, decimal, numberCap, otherKind, kindOf, valueOf}
 
@@ -17,33 +18,23 @@ front p (x ∷ xs) = cond (p x) (x ∷ front p xs) []
 abbrev pub bytesFrom : List ℕ → ℕ → List ℕ
 bytesFrom text at = front inWord (drop at text)
 
--- A word's key: its bytes gathered as a number base 256, modulo 256 ^ 8. So the last eight bytes count.
-abbrev pub keyMore : ℕ → ℕ → ℕ
-keyMore key b = key % 256 ^ 7 * 256 + b
-
-unfoldable pub gathered : ℕ → List ℕ → ℕ
-gathered key [] = key
-gathered key (b ∷ w) = gathered (keyMore key b) w
-
-abbrev pub keyOf : List ℕ → ℕ
-keyOf w = gathered 0 w
-
--- The key of the first n bytes of a row of eight.
-abbrev pub cutKey : List ℕ → ℕ → ℕ
-cutKey row n = keyOf row / 256 ^ (8 - n)
-
+-- The key of a word's bytes from a place on, behind bytes of a key, and the place behind them.
 unfoldable pub lettersFrom : List ℕ → ℕ → ℕ → Letters
 lettersFrom text key at = record { key = gathered key (bytesFrom text at); next = at + run inWord (drop at text) }
 
--- The kind that a key and a length tell: that of the first reserved word with the key, if it has the length.
-abbrev pub otherKey : ℕ → List ℕ → Bool
-otherKey key w = not (eqb key (keyOf w))
+-- The kind that a key and a length tell, by the keys and lengths of the reserved words.
+abbrev pub wordKey : ℕ → ℕ
+wordKey k = keyOf (getD reserved k [])
 
-unfoldable pub placeBy : ℕ → ℕ
-placeBy key = run (otherKey key) reserved
+abbrev pub wordSize : ℕ → ℕ
+wordSize k = length (getD reserved k [])
 
 unfoldable pub kindBy : ℕ → ℕ → ℕ
-kindBy key n = cond (ltb (placeBy key) 16 && eqb n (length (getD reserved (placeBy key) []))) (placeBy key + 1) otherKind
+kindBy key n = cond (ltb (searched wordKey wordSize key n) 16) (searched wordKey wordSize key n + 1) otherKind
+
+-- One digit more, modulo 2 ^ 32.
+abbrev pub valueMore : ℕ → ℕ → ℕ
+valueMore v b = (10 * v + (b - 48)) % 2 ^ 32
 
 -- Digits behind digits of value v: their value modulo 2 ^ 32, and the place behind them.
 unfoldable pub digitsFrom : List ℕ → ℕ → ℕ → Digits

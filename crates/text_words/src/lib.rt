@@ -10,12 +10,12 @@ ghost use Rattle.text_words.specs.Scan.{lettersFrom, endsAt, numberBy, w
 use crate::bytes::is_allowed;
 use crate::bytes::is_blank;
 use crate::bytes::is_digit;
-use crate::numbers::digit_of;
 use crate::numbers::digits_from;
 use crate::numbers::has_leading_zero;
 use crate::numbers::value_by;
-use crate::table::key_more;
+use crate::numbers::value_more;
 use crate::table::kind_by;
+use text_keys::key_more;
 
 mod bytes;
 mod numbers;
@@ -103,20 +103,6 @@ fn skip_blanks(text: &[u8], at: usize) -> usize
     i
 }
 
-// The place behind the word that goes on at `at`.
-fn word_end(text: &[u8], at: usize) -> usize
-    ensures { λ r. ⌜ r ≡ at + run inWord (drop at (now (text .entry))) ⌝ }
-{
-    let mut i = at;
-    while i < text.len() {
-        if is_blank(text[i]) {
-            return i;
-        }
-        i = i + 1;
-    }
-    i
-}
-
 // Whether a word that comes to `at` ends there.
 fn ends_at(text: &[u8], at: usize) -> bool
     ensures { λ r. ⌜ r ≡ endsAt (now (text .entry)) at ⌝ }
@@ -128,18 +114,25 @@ fn ends_at(text: &[u8], at: usize) -> bool
     }
 }
 
+// The place behind the word that goes on at `at`.
+fn word_end(text: &[u8], at: usize) -> usize
+    ensures { λ r. ⌜ r ≡ at + run inWord (drop at (now (text .entry))) ⌝ }
+{
+    let mut i = at;
+    while !ends_at(text, i) {
+        i = i + 1;
+    }
+    i
+}
+
 // The bytes from `at` to the word's end, gathered behind those of the key `before`.
 fn letters_from(text: &[u8], before: u64, at: usize) -> Letters
     ensures { λ r. ⌜ r ≡ lettersFrom (now (text .entry)) before at ⌝ }
 {
     let mut key = before;
     let mut i = at;
-    while i < text.len() {
-        let b = text[i];
-        if is_blank(b) {
-            return Letters { key: key, next: i };
-        }
-        key = key_more(key, b);
+    while !ends_at(text, i) {
+        key = key_more(key, text[i]);
         i = i + 1;
     }
     Letters { key: key, next: i }
@@ -161,7 +154,7 @@ fn number_at(text: &[u8], start: usize) -> Word
     ensures { λ r. ⌜ r ≡ wordFrom (now (text .entry)) start ⌝ }
 {
     let first = text[start];
-    let digits = digits_from(text, digit_of(first), start + 1);
+    let digits = digits_from(text, value_more(0, first), start + 1);
     let next = digits.next;
     let n = next - start;
     if is_number(text, first, n, next) {

@@ -1,9 +1,9 @@
 // Digits read as a number, with one look at each: summed modulo 2 ^ 32, and capped once behind the last.
 ghost use mathlib.Core.Path.{_≡_};
 ghost use mathlib.Core.Bool.{true};
-ghost use Prim.Native.Nat.{_-_, _≤_};
+ghost use Prim.Native.Nat.{_^_, _<_};
 ghost use Rattle.text_words.specs.Words.{isDigit};
-ghost use Rattle.text_words.specs.Scan.{digitsFrom, zeroLed, valueBy};
+ghost use Rattle.text_words.specs.Scan.{valueMore, digitsFrom, zeroLed, valueBy};
 use crate::bytes::is_digit;
 
 // Every larger number is over every range, and so is 65,536: it stands for all of them.
@@ -15,24 +15,25 @@ pub struct Digits {
     pub next: usize,
 }
 
-pub fn digit_of(b: u8) -> u64
-    requires { ⌜ isDigit b ≡ true ⌝ }
-    ensures { λ r. ⌜ (r ≡ b - 48) × (r ≤ 9) ⌝ }
+// The value of one digit more, modulo 2 ^ 32.
+pub fn value_more(v: u64, b: u8) -> u64
+    requires { ⌜ (v < 2 ^ 32) × (isDigit b ≡ true) ⌝ }
+    ensures { λ r. ⌜ (r ≡ valueMore v b) × (r < 2 ^ 32) ⌝ }
 {
-    (b - b'0') as u64
+    (10 * v + (b - b'0') as u64) % 4294967296
 }
 
-// The digits from `at` on, behind a digit of value `first`.
-pub fn digits_from(text: &[u8], first: u64, at: usize) -> Digits
-    requires { ⌜ first ≤ 9 ⌝ }
-    ensures { λ r. ⌜ r ≡ digitsFrom (now (text .entry)) first at ⌝ }
+// The digits from `at` on, behind digits of the value `before`.
+pub fn digits_from(text: &[u8], before: u64, at: usize) -> Digits
+    requires { ⌜ before < 2 ^ 32 ⌝ }
+    ensures { λ r. ⌜ r ≡ digitsFrom (now (text .entry)) before at ⌝ }
 {
-    let mut v = first;
+    let mut v = before;
     let mut i = at;
     while i < text.len() {
         let b = text[i];
         if is_digit(b) {
-            v = (10 * v + digit_of(b)) % 4294967296;
+            v = value_more(v, b);
             i = i + 1;
         } else {
             return Digits { value: v, next: i };

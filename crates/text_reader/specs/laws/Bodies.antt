@@ -3,14 +3,15 @@ use mathlib.Core.Path.{_≡_, refl, sym, ap, _∙_}
 use mathlib.Core.List.{List}
 use Prim.Native.Nat.{ℕ, zero, suc, _+_, _-_, _≤_, _<_}
 use native.Mathlib.Omega.{arith}
-use borrow.Author.Tests.{eq-eqb, ne-eqb, lt-ltb, le-ltb}
-use Rattle.text_reader.specs.Kinds.{Op, Word, Read, Counted, OpRead}
-use Rattle.meaning.specs.Numbers.{caseLimit, rowLimit, oneTooMany, rowsFull}
+use borrow.Author.Tests.{eq-eqb, ne-eqb}
+use Rattle.text_reader.specs.Kinds.{Op, Word, Read, Counted, CaseHead}
+use Rattle.meaning.specs.Numbers.{caseLimit, rowLimit}
 use Rattle.meaning.specs.Text.{ifok, Body, empty, _▸_, Cases, default, case}
-use Rattle.text_words.specs.Words.{elseKind, caseKind, defaultKind, wordAt}
-use Rattle.text_reader.specs.Reading.{Part, got, none, bad, bind, ahead, closed, opBy, secondBy, orMisplaced, caseOp, caseBy, lastBy, casesFrom, stmtBy, bodyFrom}
-use Rattle.text_reader.specs.Answers.{told, self, counted, opPart, OpTold, outOfPlace, BodyTold, StmtTold, CaseTold, CasesTold, countFrom}
-use Rattle.text_reader.specs.laws.Parts.{told-got, told-none, told-bad, told-with, told-misplaced, All, Sure}
+use Rattle.meaning.specs.Layout.{sizeB}
+use Rattle.text_words.specs.Words.{elseKind, defaultKind, wordAt}
+use Rattle.text_reader.specs.Reading.{Part, got, none, bad, bind, ahead, closed, secondBy, caseBy, lastBy, casesFrom, stmtBy, bodyFrom}
+use Rattle.text_reader.specs.Answers.{told, self, counted, casePart, CaseHeadTold, BodyTold, StmtTold, CaseTold, CasesTold, countFrom}
+use Rattle.text_reader.specs.laws.Parts.{same-got, bind-got, told-got, told-none, told-bad, told-with, All, Sure}
 use Rattle.text_reader.specs.laws.Many.{many-more, many-end, many-bad, counted-done, many-sure, many-holds, many-by}
 use Rattle.text_reader.specs.laws.Sizes.{SizedB, SizedS, SizedCase, case-sized, stmt-sized, body-sized}
 
@@ -147,7 +148,7 @@ module _ (s : List ℕ) (channels depth at rows : ℕ) where
   pub cases-refused : (k : ℕ) {n place : ℕ} {w : Counted} → w ≡ counted self 0 (countFrom s channels (bodyFrom k s channels depth) caseLimit at rows) → w ≡ Counted.Refused n place → Read.Refused n place ≡ told (casesFrom s channels (bodyFrom k s channels depth) caseLimit at rows)
   cases-refused k e d = count-bad s channels (bodyFrom k s channels depth) (body-sized k s channels depth) caseLimit at rows e d
 
--- What the word w at a place decides: behind a first body, behind the cases, and ahead of a case.
+-- What the word w at a place decides: behind a first body, and behind the cases.
 module _ (s : List ℕ) (channels : ℕ) (sub : ℕ → ℕ → Part Body) (at rows : ℕ) {w : Word} (e : w ≡ wordAt s at) where
   pub second-else : (b : Body) {v : Read} → w .kind ≡ elseKind → v ≡ told (bind (sub (w .next) rows) (λ c at r. closed s (ifok b c) at r)) → v ≡ told (secondBy s channels sub b at (wordAt s at) rows)
   unfolding secondBy
@@ -165,35 +166,35 @@ module _ (s : List ℕ) (channels : ℕ) (sub : ℕ → ℕ → Part Body) (at r
   unfolding lastBy told
   last-none n = rw (← e, ne-eqb _ _ n)
 
-  pub no-case : (left : ℕ) → (w .kind ≡ caseKind → ⊥) → Read.Nothing ≡ told (caseBy s channels sub left (wordAt s at) rows)
-  unfolding caseBy told
-  no-case left n = rw (← e, ne-eqb _ _ n)
+-- A case by its head.
+module _ (s : List ℕ) (channels at rows left : ℕ) {v : CaseHead} (h : CaseHeadTold s channels at rows left v) where
+  pub case-none : v ≡ CaseHead.Nothing → (sub : ℕ → ℕ → Part Body) → Read.Nothing ≡ told (caseBy s channels sub left (wordAt s at) rows)
+  unfolding bind told casePart
+  case-none e sub = rw (h sub, e)
 
-  pub case-over : (left : ℕ) → w .kind ≡ caseKind → left ≡ 0 → Read.Refused oneTooMany (w .start) ≡ told (caseBy s channels sub left (wordAt s at) rows)
-  unfolding caseBy told
-  case-over left q z = rw (← e, eq-eqb _ _ q, eq-eqb _ _ z)
+  pub case-refused : {m place : ℕ} → v ≡ CaseHead.Refused m place → (sub : ℕ → ℕ → Part Body) → Read.Refused m place ≡ told (caseBy s channels sub left (wordAt s at) rows)
+  unfolding bind told casePart
+  case-refused e sub = rw (h sub, e)
 
-  pub case-full : (left : ℕ) → w .kind ≡ caseKind → (left ≡ 0 → ⊥) → rowLimit ≤ rows → Read.Refused rowsFull (w .start) ≡ told (caseBy s channels sub left (wordAt s at) rows)
-  unfolding caseBy told
-  case-full left q n h = rw (← e, eq-eqb _ _ q, ne-eqb _ _ n, le-ltb _ _ h)
+  module _ {o : Op} {next n : ℕ} (e : v ≡ CaseHead.Got o next n) where
+    case-read : (sub : ℕ → ℕ → Part Body) → caseBy s channels sub left (wordAt s at) rows ≡ bind (sub next n) (λ b at r. got (o, b) at r)
+    unfolding bind casePart
+    case-read sub = h sub ∙ rw e
 
--- A case within its limits, by its operation, whose first word is `first`.
-module _ (s : List ℕ) (channels : ℕ) (sub : ℕ → ℕ → Part Body) (left rows : ℕ) (w first : Word) (e : first ≡ wordAt s (w .next)) (k : w .kind ≡ caseKind) (n : left ≡ 0 → ⊥) (h : rows < rowLimit) where
-  case-read : caseBy s channels sub left w rows ≡ bind (orMisplaced s channels sub first (opBy s channels (rows + 1) first)) (λ o at r. bind (sub at r) (λ b at r. got (o, b) at r))
-  unfolding caseBy caseOp
-  case-read = rw (k, ne-eqb left 0 n, lt-ltb rows rowLimit h, e)
+    pub case-got : (sub : ℕ → ℕ → Part Body) {u : Read} → u ≡ told (sub next n) → u ≡ told (caseBy s channels sub left (wordAt s at) rows)
+    case-got sub g = rw (case-read sub) (g ∙ told-with (sub next n) (λ b. (o, b)))
 
-  op-is : {x i : OpRead} → x ≡ i → OpTold s channels first x → opBy s channels (rows + 1) first ≡ opPart (rows + 1) i
-  op-is q f = f (rows + 1) ∙ ap (opPart (rows + 1)) q
+    pub case-parts : (sub : ℕ → ℕ → Part Body) {c : Op} {b : Body} {a r : ℕ} → caseBy s channels sub left (wordAt s at) rows ≡ got (c, b) a r → (sub next n ≡ got b a r) × (o ≡ c)
+    case-parts sub q =
+        let g = bind-got (sub next n) (λ b at r. got (o, b) at r) (sym (case-read sub) ∙ q) in
+        let z = same-got (g .4) in
+        let y = ap (λ (x : Op × Body). x .1) (z .0) in
+        (g .3 ∙ rw (y, z .1, z .2), ap (λ (x : Op × Body). x .0) (z .0))
 
-  pub case-refused : {x : OpRead} {m place : ℕ} → x ≡ OpRead.Refused m place → OpTold s channels first x → Read.Refused m place ≡ told (caseBy s channels sub left w rows)
-  unfolding bind told opPart
-  case-refused q f = rw (case-read, op-is q f)
-
-  pub case-misplaced : {x : OpRead} → x ≡ OpRead.Nothing → OpTold s channels first x → outOfPlace s first ≡ told (caseBy s channels sub left w rows)
-  unfolding opPart
-  case-misplaced q f = rw (case-read, op-is q f) (told-misplaced s first (λ o at r. bind (sub at r) (λ b at r. got (o, b) at r)))
-
-  pub case-got : {x : OpRead} {o : Op} {at : ℕ} {v : Read} → x ≡ OpRead.Got o at → OpTold s channels first x → v ≡ told (sub at (rows + 1)) → v ≡ told (caseBy s channels sub left w rows)
-  unfolding bind opPart
-  case-got {o = o} {at = at} q f g = rw (case-read, op-is q f) (g ∙ told-with (sub at (rows + 1)) (λ b. (o, b)))
+    -- A row was left for it, and is counted.
+    pub case-begun : (rows < rowLimit) × (n ≡ rows + 1)
+    unfolding bind sizeB
+    case-begun =
+        let none : ℕ → ℕ → Part Body = λ at rows. got empty at rows in
+        let z : All (SizedCase left rows) (got (o, empty) next n) = rw (case-read none) at (case-sized s channels none (λ at rows. omega arith) left (wordAt s at) rows) in
+        (z .0, omega arith)

@@ -51,7 +51,7 @@ passed true c f g rows v e k = absurd (true≢false e)
 passed false c f g rows v e k = k e
 
 module _ (s : List ℕ) (channels : ℕ) (sub : ℕ → ℕ → Part Body) (depth : ℕ) (w : Word) (rows : ℕ) where
-  pub no-statement : isStatement (w .kind) ≡ false → stmtBy s channels sub depth w rows ≡ none
+  no-statement : isStatement (w .kind) ≡ false → stmtBy s channels sub depth w rows ≡ none
   unfolding stmtBy isStatement
   no-statement e =
       passed (isOp (w .kind)) _ _ _ rows none e λ e.

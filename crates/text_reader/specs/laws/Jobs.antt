@@ -1,19 +1,20 @@
 -- One lap of the loops over channels and tasks, and a job. Assumes nothing.
 use mathlib.Core.Path.{_≡_, refl, sym, ap, _∙_}
+use mathlib.Core.Bool.{Bool, true, false, cond}
 use mathlib.Core.List.{List, [], _∷_}
 use Prim.Native.Nat.{ℕ, suc, _+_}
 use native.Mathlib.Omega.{arith}
 use borrow.Author.Tests.{eqb-false}
 use lib.Dec.{eqb}
 use lib.ListN.{length}
-use Rattle.meaning.specs.Numbers.{channelLimit, capacityLimit, taskLimit, noTaskGiven}
+use Rattle.meaning.specs.Numbers.{channelLimit, capacityLimit, taskLimit, wordOutOfPlace, oneTooMany, noTaskGiven}
 use Rattle.meaning.specs.Text.{Body, Job}
 use Rattle.meaning.specs.laws.Tests.{cond-all}
 use Rattle.text_reader.specs.Kinds.{Word, Read, Counted, Reading}
 use Rattle.text_words.specs.Words.{noKind, chanKind, taskKind, wordAt}
 use Rattle.text_reader.specs.Reading.{Part, got, none, bad, bind, number, body, chanBy, chansFrom, taskEnd, taskBy, tasksFrom, jobOf, job}
-use Rattle.text_reader.specs.Answers.{counted, ChanTold, ChansTold, TaskTold, TasksTold, toldJob}
-use Rattle.text_reader.specs.laws.Parts.{told-got, All, ways-all}
+use Rattle.text_reader.specs.Answers.{told, counted, ChanTold, ChansTold, taskHead, TaskHeadTold, TaskTold, TasksTold, toldJob}
+use Rattle.text_reader.specs.laws.Parts.{Stops, told-got, All, ways-all}
 use Rattle.text_reader.specs.laws.Many.{many-more, many-end, many-bad, counted-done}
 use Rattle.text_reader.specs.laws.Heads.{Kept, number-kept}
 
@@ -83,6 +84,38 @@ module _ (s : List ℕ) (channels : ℕ) where
   pub tasks-refused : (left at rows n : ℕ) {v : Read} {m place : ℕ} → v ≡ Read.Refused m place → TaskTold s channels at rows left v → Counted.Refused m place ≡ counted length n (tasksFrom s channels left at rows)
   unfolding tasksFrom
   tasks-refused left at rows n e h = many-bad _ _ _ length left at rows n e h
+
+-- A task by its head.
+module _ (s : List ℕ) (channels at rows left : ℕ) {v : Read} (h : TaskHeadTold s at rows left v) where
+  pub task-stop : Stops v → v ≡ told (taskBy s channels left (wordAt s at) rows)
+  unfolding taskBy taskHead told
+  task-stop q = go (eqb (w .kind) taskKind) (eqb left 0) (eqb (w .kind) noKind) h
+    where
+      w : Word
+      w = wordAt s at
+
+      go : (b c d : Bool) → v ≡ cond b (cond c (Read.Refused oneTooMany (w .start)) (Read.Done (w .next) rows)) (cond d Read.Nothing (Read.Refused wordOutOfPlace (w .start)))
+          → v ≡ told (cond {A = ℕ → Part Body} b (cond c (λ rows. bad oneTooMany (w .start)) (λ rows. bind (body s channels (w .next) rows) (λ b at r. taskEnd s b (wordAt s at) r)))
+          (λ rows. cond d none (bad wordOutOfPlace (w .start))) rows)
+      go true true d e = e
+      go true false d e = absurd (rw e at q)
+      go false c true e = e
+      go false c false e = e
+
+  pub task-begun : {next n : ℕ} → v ≡ Read.Done next n → taskBy s channels left (wordAt s at) rows ≡ bind (body s channels next rows) (λ b at r. taskEnd s b (wordAt s at) r)
+  unfolding taskBy taskHead
+  task-begun {next} {n} q = go (eqb (w .kind) taskKind) (eqb left 0) (eqb (w .kind) noKind) (sym q ∙ h)
+    where
+      w : Word
+      w = wordAt s at
+
+      go : (b c d : Bool) → Read.Done next n ≡ cond b (cond c (Read.Refused oneTooMany (w .start)) (Read.Done (w .next) rows)) (cond d Read.Nothing (Read.Refused wordOutOfPlace (w .start)))
+          → cond {A = ℕ → Part Body} b (cond c (λ rows. bad oneTooMany (w .start)) (λ rows. bind (body s channels (w .next) rows) (λ b at r. taskEnd s b (wordAt s at) r)))
+          (λ rows. cond d none (bad wordOutOfPlace (w .start))) rows ≡ bind (body s channels next rows) (λ b at r. taskEnd s b (wordAt s at) r)
+      go true true d e = absurd (let z : _≡_ {A = ℕ} 0 1 = cc in omega arith)
+      go true false d e = let a : w .next ≡ next = cc in rw a
+      go false c true e = absurd (let z : _≡_ {A = ℕ} 0 1 = cc in omega arith)
+      go false c false e = absurd (let z : _≡_ {A = ℕ} 0 1 = cc in omega arith)
 
 -- A JOB
 

@@ -89,20 +89,12 @@ told-with (got x at rows) f = refl
 told-with none f = refl
 told-with (bad n place) f = refl
 
--- The refusal of a word out of place, with or without something behind it.
+-- The refusal of a word out of place.
 pub told-out : (A : Type 0) (s : List ℕ) (w : Word) → outOfPlace s w ≡ told {A = A} (misplaced s w)
 unfolding told
 told-out A s w = go (eqb (w .kind) noKind)
   where
     go : (b : Bool) → cond b (Read.Refused cutShort (length s)) (Read.Refused wordOutOfPlace (w .start)) ≡ told {A = A} (cond b (bad cutShort (length s)) (bad wordOutOfPlace (w .start)))
-    go true = refl
-    go false = refl
-
-pub told-misplaced : {A B : Type 0} (s : List ℕ) (w : Word) (f : A → ℕ → ℕ → Part B) → outOfPlace s w ≡ told (bind (misplaced s w) f)
-unfolding told bind
-told-misplaced s w f = go (eqb (w .kind) noKind)
-  where
-    go : (b : Bool) → cond b (Read.Refused cutShort (length s)) (Read.Refused wordOutOfPlace (w .start)) ≡ told (bind (cond b (bad cutShort (length s)) (bad wordOutOfPlace (w .start))) f)
     go true = refl
     go false = refl
 

@@ -1,9 +1,13 @@
-use mathlib.Core.Path.{_≡_, refl, _∙_}
+use mathlib.Core.Path.{_≡_, refl, sym, _∙_}
 use Prim.Native.Nat.{_+_, _-_}
+use native.Mathlib.Omega.{arith}
 use borrow.Author.Needs.{needs}
+use borrow.Author.Tests.{eqb-true, not-true, not-false}
+use denote.Ref.{now}
 use lib.ListN.{length, drop}
 use Rattle.text_words.specs.Words.{inWord, run}
-use Rattle.text_words.specs.laws.Words.{run-more, run-stop, run-end}
+use Rattle.text_words.specs.laws.Words.{run-more}
+use Rattle.text_words.proofs.Fronts.{goes-on}
 use Rattle.text_words.proofs.word_end.Statement.{statement}
 use Rattle.text_words.proofs.word_end.Tie as tie
 
@@ -13,22 +17,34 @@ Inv-loop text at i₀ i = i + run inWord (drop i text) ≡ at + run inWord (drop
 abbrev μ-loop : tie.MeasureT-loop
 μ-loop text at i₀ i = length text - i
 
-returns : tie.Need-returns Inv-loop μ-loop
-unfolding inWord
-returns c =
-    let l = c .before .before .before .before .loop in
-    run-stop inWord _ (l .i) 0 (c .before .before .before .loop-test .taken) (rw (← c .before .is-blank .ensures, c .if1 .taken)) ∙ l .inv
+add-i : tie.Need-add-i Inv-loop μ-loop
+add-i c =
+    let l = c .before .before .loop in
+    let t = now (c .before .before .before .before .args .text) in
+    let e = sym (c .before .ends-at .ensures) ∙ not-true _ (c .if1 .taken) in
+    omega (arith, goes-on t (l .i) e)
+
+loop-less : tie.Need-loop-less Inv-loop μ-loop
+loop-less c =
+    let l = c .before .before .loop in
+    let t = now (c .before .before .before .before .args .text) in
+    let e = sym (c .before .ends-at .ensures) ∙ not-true _ (c .if1 .taken) in
+    omega (arith, goes-on t (l .i) e)
 
 loop-again : tie.Need-loop-again Inv-loop μ-loop
-unfolding inWord
 loop-again c =
-    let l = c .before .before .before .before .loop in
-    run-more inWord _ (l .i) 0 (c .before .before .before .loop-test .taken) (rw (← c .before .is-blank .ensures, c .if1 .left)) ∙ l .inv
+    let l = c .before .before .loop in
+    let t = now (c .before .before .before .before .args .text) in
+    let e = sym (c .before .ends-at .ensures) ∙ not-true _ (c .if1 .taken) in
+    let g = goes-on t (l .i) e in
+    run-more inWord t (l .i) 0 (g .0) (g .1) ∙ l .inv
 
-returns-2 : tie.Need-returns-2 Inv-loop μ-loop
-returns-2 c =
-    let l = c .before .loop in
-    run-end inWord _ (l .i) (c .loop-test .left) ∙ l .inv
+returns : tie.Need-returns Inv-loop μ-loop
+returns c =
+    let l = c .before .before .loop in
+    let t = now (c .before .before .before .before .args .text) in
+    let z = eqb-true (run inWord (drop (l .i) t)) 0 (sym (c .before .ends-at .ensures) ∙ not-false _ (c .if1 .left)) in
+    omega arith
 
 pub word-end-spec : {M : Type 1} → statement M
 word-end-spec =
@@ -37,10 +53,8 @@ word-end-spec =
     Inv-loop
     μ-loop
     (λ c. refl)
-    (λ c. search needs)
     (λ c κs. search needs)
-    returns
-    (λ c. search needs)
-    (λ c. search needs)
+    add-i
+    loop-less
     loop-again
-    returns-2)
+    returns)

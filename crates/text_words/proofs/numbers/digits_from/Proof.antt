@@ -1,6 +1,5 @@
 use mathlib.Core.Path.{_≡_, refl, sym, _∙_}
 use Prim.Native.Nat.{_-_, _^_, _<_}
-use native.Mathlib.Omega.{arith}
 use borrow.Author.Needs.{needs}
 use lib.ListN.{length}
 use Rattle.text_words.specs.Scan.{digitsFrom}
@@ -9,17 +8,17 @@ use Rattle.text_words.proofs.numbers.digits_from.Statement.{statement}
 use Rattle.text_words.proofs.numbers.digits_from.Tie as tie
 
 abbrev Inv-loop : tie.InvT-loop
-Inv-loop text first at v₀ i₀ v i = (v < 2 ^ 32) × (digitsFrom text v i ≡ digitsFrom text first at)
+Inv-loop text before at v₀ i₀ v i = (v < 2 ^ 32) × (digitsFrom text v i ≡ digitsFrom text before at)
 
 abbrev μ-loop : tie.MeasureT-loop
-μ-loop text first at v₀ i₀ v i = length text - i
+μ-loop text before at v₀ i₀ v i = length text - i
 
 loop-again : tie.Need-loop-again Inv-loop μ-loop
 loop-again c =
     let l = c .before .before .before .before .before .loop in
     let h = c .before .before .before .before .loop-test .taken in
     let e = sym (c .before .before .is-digit .ensures) ∙ c .before .if1 .taken in
-    (omega arith, rw (c .digit-of .ensures .0) (digits-more _ (l .v) (l .i) h e ∙ l .inv .1))
+    (c .value-more .ensures .1, rw (c .value-more .ensures .0) (digits-more _ (l .v) (l .i) h e ∙ l .inv .1))
 
 returns : tie.Need-returns Inv-loop μ-loop
 returns c =
@@ -37,12 +36,10 @@ digits-from-spec =
     (tie.spec
     Inv-loop
     μ-loop
-    (λ c. (omega arith, refl))
+    (λ c. (c .before .pre, refl))
     (λ c. search needs)
     (λ c κs. search needs)
-    (λ c. search needs)
-    (λ c κs. sym (c .before .is-digit .ensures) ∙ c .if1 .taken)
-    (λ c. search needs)
+    (λ c κs. (c .before .before .before .before .loop .inv .0, sym (c .before .is-digit .ensures) ∙ c .if1 .taken))
     (λ c. search needs)
     (λ c. search needs)
     loop-again

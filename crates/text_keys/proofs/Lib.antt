@@ -1,0 +1,2 @@
+-- What the proof of the search uses.
+pub mod Laws
