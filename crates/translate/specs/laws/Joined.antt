@@ -10,7 +10,7 @@ use Rattle.translate.specs.Kinds.{Statement}
 use Rattle.meaning.specs.Text.{Job}
 use Rattle.meaning.specs.Layout.{rowsT, firstRows}
 use Rattle.meaning.specs.Bytes.{rowSize, fieldsOf, bytesOf, rowBytes, firstBytes, trailer, imageBytes, jobImage}
-use Rattle.image_rows.specs.Rows.{rowPut}
+use Rattle.image_rows.specs.Rows.{fieldsPut, rowPut}
 use Rattle.image_laws.specs.laws.Rows.{firstRows-length}
 use Rattle.image_laws.specs.laws.ReadBack.{rowBytes-length, firstBytes-length, image-length}
 use Rattle.translate_rows.specs.RowsPut.{rowsPut}
@@ -22,7 +22,7 @@ sets-append (x ∷ a) b l i n e = sets-append a b (set l i x) (suc i) n (omega a
 
 -- Rows in a buffer with room for them are their bytes.
 rowsPut-bytes : (xs : List Statement) (out : List ℕ) (i : ℕ) → rowSize * (i + length xs) ≤ length out → rowsPut out i xs ≡ sets out (rowSize * i) (rowBytes xs)
-unfolding rowsPut rowPut rowBytes
+unfolding rowsPut rowPut fieldsPut rowBytes
 rowsPut-bytes [] out i l = refl
 rowsPut-bytes (x ∷ xs) out i l =
     let t = le-leb (rowSize * i + rowSize) (length out) (omega arith) in

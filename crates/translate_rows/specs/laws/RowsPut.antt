@@ -11,7 +11,7 @@ use lib.Seq.{sets, length-sets}
 use Rattle.translate_rows.specs.Kinds.{Row, Statement}
 use Rattle.meaning.specs.Image.{rowNo}
 use Rattle.meaning.specs.Bytes.{rowSize, fieldsOf, bytesOf}
-use Rattle.image_rows.specs.Rows.{rowPut}
+use Rattle.image_rows.specs.Rows.{fieldsPut, rowPut}
 use Rattle.translate_rows.specs.RowsPut.{rowsPut}
 
 pub rowsPut-append : (xs ys : List Statement) (out : List ℕ) (i : ℕ) → rowsPut out i (xs ++ ys) ≡ rowsPut (rowsPut out i xs) (i + length xs) ys
@@ -34,7 +34,7 @@ unfolding rowsPut
 rowsPut-one x out i = refl
 
 pub length-put : (out : List ℕ) (r : Row) (x : Statement) → length (rowPut out r x) ≡ length out
-unfolding rowPut
+unfolding rowPut fieldsPut
 length-put out r x = go (leb (rowSize * r .0 + rowSize) (length out))
   where
     go : (b : Bool) → length (cond b (sets out (rowSize * r .0) (bytesOf (fieldsOf x))) out) ≡ length out

@@ -1,0 +1,4 @@
+pub mod Kinds
+pub mod Notes
+pub mod Rows
+pub mod laws
