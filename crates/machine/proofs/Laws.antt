@@ -1,11 +1,14 @@
 -- Laws that the proofs of this crate cite. Assumes nothing.
-use mathlib.Core.Path.{_≡_, ap, _∙_}
-use mathlib.Core.List.{List, [], _∷_, _++_}
-use Prim.Native.Nat.{ℕ, zero, suc, _+_, _<_}
-use native.Mathlib.Nat.{add-zero, zero-add, le-of-suc-le-suc, not-suc-le-zero}
-use native.Mathlib.Numerals.{add-one}
+use mathlib.Core.Path.{_≡_, refl, sym, ap, ap₂, _∙_}
+use mathlib.Core.Bool.{cond}
+use mathlib.Core.List.{List, [], _∷_}
+use Prim.Native.Nat.{ℕ, zero, suc, _+_, _%_, _<_, _≤_}
+use native.Mathlib.Nat.{le-of-suc-le-suc, not-suc-le-zero, mod-eq-of-lt}
+use native.Mathlib.Decide.{decLt}
 use native.Mathlib.Omega.{arith}
-use lib.ListN.{length, getD, set}
+use borrow.Author.Tests.{lt-ltb, le-ltb}
+use lib.Dec.{ltb}
+use lib.ListN.{length, getD, set, replicate}
 use mir.Syntax.{w16}
 use mir.Val.{Val}
 use denote.RattleType.{RattleType}
@@ -13,30 +16,76 @@ use denote.Laws.{Is}
 use denote.Shadow.{shadow}
 use denote.Plain.{UInt}
 use denote.Array.{Array, each}
-use Rattle.meaning.specs.Bytes.{tabulate}
-use Rattle.image_laws.specs.laws.Whole.{length-tabulate}
-use Rattle.machine_state.specs.laws.Cells.{over-snoc-at}
-use Rattle.machine_state.specs.Cells.{over}
+use Rattle.machine.specs.Kinds.{Row, Counts, TaskState, Moved, State}
+use Rattle.meaning.specs.Image.{rowNo, taskNo}
+use Rattle.meaning.specs.Bytes.{tabulate, firstRowIn}
+use Rattle.machine_records.specs.Records.{Records, blankTask, taskIn, withCounts, taskWent}
+use Rattle.machine_records.specs.Plans.{Done}
+use Rattle.machine_store.specs.Store.{recordsIn, Plain, doneIn}
+use Rattle.machine_store.specs.laws.Tables.{table-set, table-at}
+use Rattle.machine_store.specs.laws.Again.{words-again, cells-again}
+use Rattle.machine.specs.Public.{stateOf, freshTask, freshTasks, freshRecords, turnedAs}
 
-module _ {A : Type 0} (f : ℕ → A) where
-  listed-snoc : (n i : ℕ) → tabulate f (suc n) i ≡ tabulate f n i ++ (f (i + n) ∷ [])
-  unfolding tabulate
-  listed-snoc zero i = rw add-zero
-  listed-snoc (suc n) i =
-      let e : suc i + n ≡ i + suc n = omega arith in
-      ap (λ l. f i ∷ l) (listed-snoc n (suc i) ∙ rw e)
+-- ONE STORE FOR ONE STATE
 
-  -- One lap of a loop that fills the cells of z with f 0, f 1, ..
-  pub fill-lap : (z : List A) (n : ℕ) → n < length z → set (over (tabulate f n 0) z) n (f n) ≡ over (tabulate f (n + 1) 0) z
-  fill-lap z n h =
-      let e : tabulate f n 0 ++ (f n ∷ []) ≡ tabulate f (n + 1) 0 = rw (add-one, listed-snoc n 0, zero-add) in
-      over-snoc-at (tabulate f n 0) z (f n) n (length-tabulate f n 0) h ∙ ap (λ l. over l z) e
+module _ (w c : List ℕ) (lw : length w ≡ 33) (lc : length c ≡ 181) (p : Plain c) where
+  abbrev held : State
+  held = record { words = w; cells = c }
+
+  pub state-again : (s : Records) → recordsIn w c ≡ s → held ≡ stateOf s
+  state-again s e = sym (ap₂ (λ w c. record { words = w; cells = c }) (words-again w c lw) (cells-again w c lc p)) ∙ ap stateOf e
+
+  -- A turn in place, told cell by cell.
+  pub turn-told : (m : Moved) (d : Done) → doneIn w c m ≡ d → record { event = m .event; state = held; change = m .change } ≡ turnedAs d
+  turn-told m d e = ap (λ s. record { event = m .event; state = s; change = m .change }) (state-again (recordsIn w c) refl) ∙ ap turnedAs e
+
+-- A FRESH START: nothing but zeros, then task behind task at its first row
+
+pub blank-plain : Plain (replicate 181 0)
+blank-plain = record { statuses = λ t l. zeros 181 t 2; oks = λ t l. zeros 181 (16 + t) 1; closeds = λ k l. zeros 181 (48 + k) 1 }
+  where
+    zeros : (n i m : ℕ) → getD (replicate n 0) i 0 ≤ m
+    zeros zero i m = omega arith
+    zeros (suc n) zero m = omega arith
+    zeros (suc n) (suc i) m = zeros n i m
+
+module _ (rs : List ℕ) (k : Counts) where
+  blank-reads : recordsIn (replicate 33 0) (replicate 181 0) ≡ freshRecords (freshTasks rs k 0) 0 0
+  unfolding recordsIn tabulate
+  blank-reads = refl
+
+  -- The counts are put among the zeros,
+  pub fresh-counted : (n m : ℕ) (z : Records) → z ≡ withCounts (recordsIn (replicate 33 0) (replicate 181 0)) n m → z ≡ freshRecords (freshTasks rs k 0) n m
+  fresh-counted n m z e = e ∙ ap (λ s. withCounts s n m) blank-reads
+
+  abbrev firstRow : ℕ → Row
+  firstRow t = firstRowIn rs (k .rows) (k .channels) (taskNo t)
+
+  abbrev standing : ℕ → ℕ → TaskState
+  standing n t = freshTask (cond (ltb t n) (firstRow t) (rowNo 0))
+
+  one-more : (n t : ℕ) → (t ≡ n → ⊥) → ltb t (n + 1) ≡ ltb t n
+  one-more n t d =
+      elim (decLt t n) [
+        | yes h ↦ lt-ltb t (n + 1) (omega arith) ∙ sym (lt-ltb t n h)
+        | no g ↦ le-ltb t (n + 1) (omega arith) ∙ sym (le-ltb t n (omega arith))
+      ]
+
+  -- and a task goes to its first row.
+  pub fresh-lap : (t : ℕ) → t < 16 → (r : Row) → r ≡ firstRow t → (n m : ℕ) (s z : Records)
+      → s ≡ freshRecords (freshTasks rs k t) n m → z ≡ taskWent s (taskNo t) r → z ≡ freshRecords (freshTasks rs k (t + 1)) n m
+  fresh-lap t h r er n m s z es ez =
+      let here : standing (t + 1) t ≡ freshTask r = rw (lt-ltb t (t + 1) (omega arith), er) in
+      let all = table-set (standing t) (standing (t + 1)) 16 0 t t (omega arith) h (λ j d a b. rw (one-more t j d)) in
+      let was : taskIn (freshTasks rs k t) (taskNo t) ≡ standing t (0 + t % 16) = table-at (standing t) 16 0 (t % 16) blankTask (omega arith) in
+      rw (ez, es, was, mod-eq-of-lt h) (ap (λ xs. freshRecords xs n m) (sym (all ∙ ap (set (tabulate (standing t) 16 0) t) here)))
 
 -- The rows of an array of arrays have sixteen cells each: what is known of the array says it element by element.
 abbrev CellRow : RattleType
 CellRow = Array (UInt w16) 16
 
-each-row : (xs : List (CellRow .Denot)) (us : List Val) → shadow (each (CellRow .Denot) (CellRow .own) xs us) → (j : ℕ) → j < length xs → length (getD xs j []) ≡ 16
+each-row : (xs : List (CellRow .Denot)) (us : List Val) → shadow (each (CellRow .Denot) (CellRow .own) xs us) → (j : ℕ) → j < length xs
+    → length (getD xs j []) ≡ 16
 each-row [] us s j h = absurd (not-suc-le-zero h)
 each-row (x ∷ xs) [] s j h = absurd s
 each-row (x ∷ xs) (u ∷ us) s zero h = s .0 .1 .0 .1

@@ -1,36 +1,15 @@
 -- Every kind that this crate speaks of, its own and those of the crates below.
 pub use Rattle.meaning.specs.declared.Task.{Task}
-pub use Rattle.meaning.specs.declared.Chan.{Chan}
 pub use Rattle.meaning.specs.declared.Row.{Row}
-pub use Rattle.meaning.specs.declared.Port.{Port}
-pub use Rattle.meaning.specs.declared.Port.the-variants.{Nil, On}
-pub use Rattle.meaning.specs.declared.Op.{Op}
-pub use Rattle.meaning.specs.declared.Op.the-variants.{Send, Forward, Recv}
-pub use Rattle.meaning.specs.declared.Otherwise.{Otherwise}
-pub use Rattle.meaning.specs.declared.Otherwise.the-variants.{Wait, Go}
-pub use Rattle.meaning.specs.declared.Statement.{Statement}
-pub use Rattle.meaning.specs.declared.Statement.the-variants.{Do, Close, Range, Repeat, Ifok, Select, Case, Stop}
 pub use Rattle.meaning.specs.declared.Status.{Status}
 pub use Rattle.meaning.specs.declared.Status.the-variants.{Able, Waiting, Ended}
-pub use Rattle.meaning.specs.declared.Event.{Event}
-pub use Rattle.meaning.specs.declared.Event.the-variants.{Appended, Handed, Taken, Refilled, Received, Drained, Closed, Waits, Branched, Finished, Faulted}
 pub use Rattle.meaning.specs.declared.EventNumbers.{EventNumbers}
 pub use Rattle.image_rows.specs.declared.Counts.{Counts}
 pub use Rattle.image_check.specs.declared.Checked.{Checked}
 pub use Rattle.image_check.specs.declared.Checked.the-variants.{Good}
-pub use Rattle.machine_state.specs.declared.TaskState.{TaskState}
-pub use Rattle.machine_state.specs.declared.ChanState.{ChanState}
-pub use Rattle.machine_state.specs.declared.State.{State}
-pub use Rattle.machine_state.specs.declared.Change.{Change}
-pub use Rattle.machine_state.specs.declared.Change.the-variants.{Keep, Append, Take, Refill}
-pub use Rattle.machine_state.specs.declared.Queue.{Queue}
-pub use Rattle.machine_state.specs.declared.Queue.the-variants.{Stay, Join, Leave}
-pub use Rattle.machine_state.specs.declared.Plan.{Plan}
-pub use Rattle.machine_state.specs.declared.Turned.{Turned}
-pub use Rattle.machine_waiters.specs.declared.Side.{Side}
-pub use Rattle.machine_waiters.specs.declared.Side.the-variants.{Receiving, Sending}
-pub use Rattle.machine_waiters.specs.declared.Offer.{Offer}
-pub use Rattle.machine_waiters.specs.declared.Offer.the-variants.{Nothing, By}
-pub use Rattle.machine_waiters.specs.declared.Found.{Found}
-pub use Rattle.machine_waiters.specs.declared.Found.the-variants.{Nobody, At}
+pub use Rattle.machine_records.specs.declared.TaskState.{TaskState}
+pub use Rattle.machine_records.specs.declared.Change.the-variants.{Keep}
+pub use Rattle.machine_records.specs.declared.Moved.{Moved}
+pub use Rattle.machine_store.specs.declared.State.{State}
 pub use Rattle.machine.specs.declared.Started.{Started}
+pub use Rattle.machine.specs.declared.Turned.{Turned}

@@ -4,11 +4,8 @@ pub use Rattle.meaning.specs.declared.Row.{Row}
 pub use Rattle.meaning.specs.declared.Otherwise.{Otherwise}
 pub use Rattle.meaning.specs.declared.Otherwise.the-variants.{Wait, Go}
 pub use Rattle.meaning.specs.declared.Statement.{Statement}
-pub use Rattle.meaning.specs.declared.Statement.the-variants.{Do, Close, Range, Repeat, Ifok, Select, Case, Stop}
 pub use Rattle.meaning.specs.declared.Fields.{Fields}
 pub use Rattle.meaning.specs.declared.Status.{Status}
 pub use Rattle.meaning.specs.declared.Status.the-variants.{Able, Waiting, Ended}
 pub use Rattle.image_rows.specs.declared.Counts.{Counts}
-pub use Rattle.machine_state.specs.declared.TaskState.{TaskState}
-pub use Rattle.machine_state.specs.declared.ChanState.{ChanState}
-pub use Rattle.machine_state.specs.declared.State.{State}
+pub use Rattle.machine_records.specs.declared.TaskState.{TaskState}

@@ -1,3 +1,4 @@
 pub mod Kinds
-pub mod Fitting
+pub mod Fitted
 pub mod Walks
+pub mod laws

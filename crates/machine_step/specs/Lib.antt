@@ -1,2 +1,2 @@
 pub mod Kinds
-pub mod Step
+pub mod laws

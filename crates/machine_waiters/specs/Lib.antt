@@ -1,3 +1,3 @@
 pub mod Kinds
-pub mod Waiters
+pub mod Served
 pub mod laws

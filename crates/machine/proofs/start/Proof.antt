@@ -14,15 +14,20 @@ start-as-requires : tie.Need-start-as-requires
 unfolding countsIn taskCount
 start-as-requires c κs = λ g.
     let bs = now (c .before .before .before .before .before .args .image) in
-    let z : c .counts-in .result .tasks ≡ taskCount bs = ap (λ k. k .tasks) (c .counts-in .ensures ∙ ap countsIn (c .before .trailer-of .ensures)) in
+    let k = c .counts-in in
+    let z : k .result .tasks ≡ taskCount bs = ap (λ k. k .tasks) (k .ensures ∙ ap countsIn (c .before .trailer-of .ensures)) in
     omega (arith, z, good-sound bs (sym (c .before .before .before .check .ensures) ∙ g) .most-tasks)
 
 returns : tie.Need-returns
 unfolding started countsOf
 returns c =
     let bs = now (c .before .before .before .before .before .before .args .image) in
-    let e : c .start-as .result ≡ started bs = rw (← c .before .before .before .before .check .ensures, ← c .before .before .trailer-of .ensures, ← c .before .counts-in .ensures, ← c .before .before .before .body-of .ensures) (c .start-as .ensures) in
-    (e, started-means bs (c .start-as .result) e)
+    let check = c .before .before .before .before .check .ensures in
+    let body = c .before .before .before .body-of .ensures in
+    let trailer = c .before .before .trailer-of .ensures in
+    let counts = c .before .counts-in .ensures in
+    let e : c .start-as .result ≡ started bs = rw (← check, ← trailer, ← counts, ← body) (c .start-as .ensures) in
+    (e, λ good. started-means bs good (c .start-as .result) e)
 
 pub start-spec : {M : Type 1} → statement M
 start-spec =

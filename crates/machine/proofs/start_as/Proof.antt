@@ -8,9 +8,6 @@ start-as-spec =
     (tie.spec
     (λ c. search needs)
     (λ c κs. c .before .before .before .pre (c .enum-told .given .1))
-    (λ c κs. search needs)
     (λ c. search needs)
-    (λ c κs. search needs)
-    (λ c κs. search needs)
-    (λ c. rw (c .before .before .enum-told .given .1, c .state-of .ensures, c .before .fresh-tasks .ensures))
-    (λ c. rw (c .before .before .before .answer .given .1, c .state-of2 .ensures, c .before .fresh-task .ensures)))
+    (λ c. rw (c .before .enum-told .given .1, c .fresh .ensures))
+    (λ c. rw (c .before .answer .given .1)))

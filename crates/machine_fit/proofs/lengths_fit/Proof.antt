@@ -1,37 +1,41 @@
-use borrow.Author.Needs.{needs}
-use borrow.Author.Tests.{le-leb, lt-leb}
-use denote.Ref.{now}
-use native.Mathlib.Omega.{arith}
-use native.Mathlib.Nat.{sub-zero}
-use Prim.Native.Nat.{_≤_, _-_}
 use mathlib.Core.Path.{_≡_}
-use Rattle.machine_fit.specs.Fitting.{every}
-use Rattle.machine_fit.specs.Walks.{lengthIn}
-use Rattle.machine_fit.proofs.Laws.{every-step}
+use Prim.Native.Nat.{_-_, _≤_}
+use native.Mathlib.Nat.{sub-zero}
+use native.Mathlib.Omega.{arith}
+use denote.Ref.{now}
+use borrow.Author.Tests.{le-leb, lt-leb}
+use Rattle.machine_records.specs.Fitting.{every, lengthFits}
+use Rattle.machine_store.specs.Store.{recordsIn}
+use Rattle.machine_records.specs.laws.Every.{every-step}
+use borrow.Author.Needs.{needs}
 use Rattle.machine_fit.proofs.lengths_fit.Statement.{statement}
 use Rattle.machine_fit.proofs.lengths_fit.Tie as tie
 
 abbrev Inv-loop : tie.InvT-loop
-Inv-loop body k chans n c₀ c = (c ≤ n) × (every (lengthIn body k chans) n 0 ≡ every (lengthIn body k chans) (n - c) c)
+Inv-loop body k words cells n c₀ c =
+    (c ≤ n) × (every (lengthFits body k (recordsIn words cells)) n 0 ≡ every (lengthFits body k (recordsIn words cells)) (n - c) c)
 
 abbrev μ-loop : tie.MeasureT-loop
-μ-loop body k chans n c₀ c = n - c
+μ-loop body k words cells n c₀ c = n - c
+
+loop-holds : tie.Need-loop-holds Inv-loop μ-loop
+loop-holds c = (search needs, simp sub-zero)
 
 returns : tie.Need-returns Inv-loop μ-loop
+unfolding lengthFits
 returns c =
-    let b = c .before .before in
-    let l = b .before .before .before .loop in
-    let a = b .before .before .before .before .before .args in
-    let step = every-step (lengthIn (now (a .body)) (a .k) (a .t3)) (a .k .channels) (l .c) (search needs) in
-    rw (l .inv .1, step, ← b .capacity-in .ensures, lt-leb _ _ (c .if1 .taken))
+    let l = c .before .before .before .before .before .loop in
+    let a = c .before .before .before .before .before .before .before .args in
+    let step = every-step (lengthFits (now (a .body)) (a .k) (recordsIn (now (a .words)) (now (a .cells)))) (a .k .channels) (l .c) (search needs) in
+    rw (l .inv .1, step, ← c .before .before .capacity-in .ensures, ← c .before .before .before .chan-at .ensures, lt-leb _ _ (c .if1 .taken))
 
 loop-again : tie.Need-loop-again Inv-loop μ-loop
+unfolding lengthFits
 loop-again c =
-    let b = c .before .before in
-    let l = b .before .before .before .loop in
-    let a = b .before .before .before .before .before .args in
-    let step = every-step (lengthIn (now (a .body)) (a .k) (a .t3)) (a .k .channels) (l .c) (search needs) in
-    (search needs, rw (l .inv .1, step, ← b .capacity-in .ensures, le-leb _ _ (c .if1 .left)))
+    let l = c .before .before .before .before .before .loop in
+    let a = c .before .before .before .before .before .before .before .args in
+    let step = every-step (lengthFits (now (a .body)) (a .k) (recordsIn (now (a .words)) (now (a .cells)))) (a .k .channels) (l .c) (search needs) in
+    (search needs, rw (l .inv .1, step, ← c .before .before .capacity-in .ensures, ← c .before .before .before .chan-at .ensures, le-leb _ _ (c .if1 .left)))
 
 returns-2 : tie.Need-returns-2 Inv-loop μ-loop
 unfolding every
@@ -46,10 +50,8 @@ lengths-fit-spec =
     (tie.spec
     Inv-loop
     μ-loop
-    (λ c. (search needs, simp sub-zero))
-    (λ c. search needs)
-    (λ c. search needs)
-    (λ c. search needs)
+    loop-holds
+    (λ c κs. search needs)
     (λ c κs. search needs)
     returns
     (λ c. search needs)

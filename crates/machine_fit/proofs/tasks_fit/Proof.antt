@@ -1,45 +1,52 @@
-use borrow.Author.Needs.{needs}
-use denote.Ref.{now}
-use native.Mathlib.Omega.{arith}
-use native.Mathlib.Nat.{sub-zero}
-use Prim.Native.Nat.{_≤_, _-_, _%_}
 use mathlib.Core.Path.{_≡_}
-use Rattle.machine_fit.specs.Fitting.{every, taskFits}
-use Rattle.machine_fit.proofs.Laws.{every-step}
+use Prim.Native.Nat.{_-_, _%_, _≤_}
+use native.Mathlib.Nat.{sub-zero}
+use native.Mathlib.Omega.{arith}
+use denote.Ref.{now}
+use Rattle.machine_records.specs.Fitting.{every, taskFits}
+use Rattle.machine_store.specs.Store.{recordsIn}
+use Rattle.machine_records.specs.laws.Every.{every-step}
+use borrow.Author.Needs.{needs}
 use Rattle.machine_fit.proofs.tasks_fit.Statement.{statement}
 use Rattle.machine_fit.proofs.tasks_fit.Tie as tie
 
 abbrev Inv-loop : tie.InvT-loop
-Inv-loop body k s named n tasks order i₀ i = (i ≤ n) × (every (taskFits body k s) n 0 ≡ every (taskFits body k s) (n - i) i)
+Inv-loop body k words cells n named tasks i₀ i =
+    (i ≤ tasks) × (every (taskFits body k (recordsIn words cells)) tasks 0 ≡ every (taskFits body k (recordsIn words cells)) (tasks - i) i)
 
 abbrev μ-loop : tie.MeasureT-loop
-μ-loop body k s named n tasks order i₀ i = n - i
+μ-loop body k words cells n named tasks i₀ i = tasks - i
+
+loop-holds : tie.Need-loop-holds Inv-loop μ-loop
+loop-holds c = (search needs, simp sub-zero)
 
 loop-again : tie.Need-loop-again Inv-loop μ-loop
 unfolding taskFits
 loop-again c =
-    let b = c .before .before in
-    let l = b .before .before .before .loop in
-    let a = b .before .before .before .before .before .before .before .args in
-    let step = every-step (taskFits (now (a .body)) (a .k) (a .s)) (a .k .tasks) (l .i) (search needs) in
-    let w : a .s .waiting % 17 ≡ a .s .waiting = omega arith in
-    (search needs, rw (l .inv .1, step, w, ← b .times-of .ensures, ← c .before .task-fits .ensures, c .if1 .taken))
+    let l = c .before .before .before .before .before .loop in
+    let a = c .before .before .before .before .before .before .before .args in
+    let s = recordsIn (now (a .words)) (now (a .cells)) in
+    let step = every-step (taskFits (now (a .body)) (a .k) s) (a .k .tasks) (l .i) (search needs) in
+    let w : s .waiting % 17 ≡ a .n = omega (arith, c .before .before .before .before .before .before .before .pre .1 .0) in
+    let x = c .before .before .before .task-at .ensures in
+    (search needs, rw (l .inv .1, step, w, ← c .before .before .times-of .ensures, ← x, ← c .before .task-fits .ensures, c .if1 .taken))
 
 returns : tie.Need-returns Inv-loop μ-loop
 unfolding taskFits
 returns c =
-    let b = c .before .before in
-    let l = b .before .before .before .loop in
-    let a = b .before .before .before .before .before .before .before .args in
-    let step = every-step (taskFits (now (a .body)) (a .k) (a .s)) (a .k .tasks) (l .i) (search needs) in
-    let w : a .s .waiting % 17 ≡ a .s .waiting = omega arith in
-    rw (l .inv .1, step, w, ← b .times-of .ensures, ← c .before .task-fits .ensures, c .if1 .left)
+    let l = c .before .before .before .before .before .loop in
+    let a = c .before .before .before .before .before .before .before .args in
+    let s = recordsIn (now (a .words)) (now (a .cells)) in
+    let step = every-step (taskFits (now (a .body)) (a .k) s) (a .k .tasks) (l .i) (search needs) in
+    let w : s .waiting % 17 ≡ a .n = omega (arith, c .before .before .before .before .before .before .before .pre .1 .0) in
+    let x = c .before .before .before .task-at .ensures in
+    rw (l .inv .1, step, w, ← c .before .before .times-of .ensures, ← x, ← c .before .task-fits .ensures, c .if1 .left)
 
 returns-2 : tie.Need-returns-2 Inv-loop μ-loop
 unfolding every
 returns-2 c =
     let l = c .before .loop in
-    let e : c .before .before .before .before .before .args .k .tasks - l .i ≡ 0 = omega arith in
+    let e : c .before .before .before .args .k .tasks - l .i ≡ 0 = omega arith in
     rw (l .inv .1, e)
 
 pub tasks-fit-spec : {M : Type 1} → statement M
@@ -48,10 +55,8 @@ tasks-fit-spec =
     (tie.spec
     Inv-loop
     μ-loop
-    (λ c. (search needs, simp sub-zero))
-    (λ c. search needs)
-    (λ c. search needs)
-    (λ c. search needs)
+    loop-holds
+    (λ c κs. search needs)
     (λ c κs. search needs)
     (λ c κs. search needs)
     (λ c. search needs)

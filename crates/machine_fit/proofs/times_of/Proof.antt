@@ -1,7 +1,7 @@
-use borrow.Author.Needs.{needs}
-use native.Mathlib.Omega.{arith}
-use Prim.Native.Nat.{_%_}
 use mathlib.Core.Path.{_≡_}
+use Prim.Native.Nat.{_%_}
+use native.Mathlib.Omega.{arith}
+use borrow.Author.Needs.{needs}
 use Rattle.machine_fit.proofs.times_of.Statement.{statement}
 use Rattle.machine_fit.proofs.times_of.Tie as tie
 

@@ -1,0 +1,11 @@
+pub mod Kinds
+pub mod Cells
+pub mod Records
+pub mod Values
+pub mod Waiters
+pub mod Plans
+pub mod Rules
+pub mod Step
+pub mod Fitting
+pub mod View
+pub mod laws
