@@ -4,6 +4,6 @@ pub use Rattle.meaning.specs.declared.Chan.{Chan}
 pub use Rattle.meaning.specs.declared.Status.{Status}
 pub use Rattle.meaning.specs.declared.Status.the-variants.{Able, Waiting, Ended}
 pub use Rattle.meaning.specs.declared.EventNumbers.{EventNumbers}
-pub use Rattle.machine_state.specs.declared.TaskState.{TaskState}
-pub use Rattle.machine_state.specs.declared.ChanState.{ChanState}
+pub use Rattle.machine_records.specs.declared.TaskState.{TaskState}
+pub use Rattle.machine_records.specs.declared.ChanState.{ChanState}
 pub use Rattle.listing_lines.specs.declared.Line.{Line}

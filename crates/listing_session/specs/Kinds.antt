@@ -3,10 +3,10 @@ pub use Rattle.meaning.specs.declared.Task.{Task}
 pub use Rattle.meaning.specs.declared.Chan.{Chan}
 pub use Rattle.translate.specs.declared.Translated.{Translated}
 pub use Rattle.translate.specs.declared.Translated.the-variants.{Image}
-pub use Rattle.machine_state.specs.declared.State.{State}
-pub use Rattle.machine_state.specs.declared.Change.{Change}
-pub use Rattle.machine_state.specs.declared.Change.the-variants.{Keep}
-pub use Rattle.machine_state.specs.declared.Turned.{Turned}
+pub use Rattle.machine_store.specs.declared.State.{State}
+pub use Rattle.machine_records.specs.declared.Change.{Change}
+pub use Rattle.machine_records.specs.declared.Change.the-variants.{Keep}
+pub use Rattle.machine.specs.declared.Turned.{Turned}
 pub use Rattle.listing_input.specs.declared.Schedule.{Schedule}
 pub use Rattle.listing_input.specs.declared.Schedule.the-variants.{Bad, Pairs}
 pub use Rattle.listing_input.specs.declared.Pair.{Pair}

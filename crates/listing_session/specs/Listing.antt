@@ -10,7 +10,8 @@ use Rattle.meaning.specs.Events.{numbers}
 use Rattle.listing_session.specs.Kinds.{Translated, State, Turned, Schedule, Bad, Pairs}
 use Rattle.translate.specs.declared.Translated.the-variants as t
 use Rattle.translate.specs.Translated.{translated, written}
-use Rattle.machine_state.specs.State.{Values, changed}
+use Rattle.machine_records.specs.Values.{Values, changed}
+use Rattle.machine_store.specs.Store.{recordsOf}
 use Rattle.machine.specs.Public.{started, freshValues, turned}
 use Rattle.listing_input.specs.Input.{wordsOf, scheduleOf, pairsIn}
 use Rattle.listing_lines.specs.Lines.{refusedLine, turnLine, badScheduleLine, tooLongLine}
@@ -33,7 +34,7 @@ module _ (image : List ℕ) (ends : ℕ) where
 
 -- A line for each task and each channel, and one for the stamp.
 abbrev pub endLines : State → ℕ
-endLines s = s .taskcount + s .chancount + 1
+endLines s = recordsOf s .taskcount + recordsOf s .chancount + 1
 
 abbrev pub runListing : List ℕ → List (ℕ × ℕ) → List ℕ
 runListing image ps = runLines image (endLines (started image .state)) 0 ps (started image .state) freshValues

@@ -5,7 +5,9 @@ use Prim.Native.Nat.{ℕ, _+_, _-_, _%_}
 use lib.Dec.{ltb}
 use lib.ListN.{length, take, drop}
 use Rattle.meaning.specs.Events.{numbers}
-use Rattle.machine_state.specs.State.{Values, taskIn, chanIn, rowFor}
+use Rattle.machine_records.specs.Records.{taskIn, chanIn}
+use Rattle.machine_records.specs.Values.{Values, rowFor}
+use Rattle.machine_store.specs.Store.{recordsOf}
 use Rattle.machine.specs.Public.{started, turned}
 use Rattle.listing_input.specs.Input.{pairAt}
 use Rattle.listing_lines.specs.Lines.{refusedLine, turnLine, taskLine, chanLine, stampLine, badScheduleLine, tooLongLine}
@@ -35,7 +37,7 @@ begun input out = begunAs (imageAfter input out) (answered input (length out))
 
 -- A line for each turn, task and channel, and one for the stamp; one alone where nothing runs.
 abbrev pub lineCount : Session → ℕ
-lineCount s = pairCount (s .answer) + s .state .taskcount + s .state .chancount + 1
+lineCount s = pairCount (s .answer) + recordsOf (s .state) .taskcount + recordsOf (s .state) .chancount + 1
 
 -- THE LINES
 
@@ -48,11 +50,11 @@ chanNo i = record { 0 = i % 256 }
 
 unfoldable pub stateLine : ℕ → State → Values → List ℕ
 stateLine i s b =
-    cond (ltb i (s .taskcount))
-    (taskLine (taskNo i) (taskIn (s .tasks) (taskNo i)))
-    (cond (ltb (i - s .taskcount) (s .chancount))
-    (chanLine (chanNo (i - s .taskcount)) (chanIn (s .chans) (chanNo (i - s .taskcount))) (rowFor b (chanNo (i - s .taskcount))))
-    (stampLine (s .stamp) (s .fault)))
+    cond (ltb i (recordsOf s .taskcount))
+    (taskLine (taskNo i) (taskIn (recordsOf s .tasks) (taskNo i)))
+    (cond (ltb (i - recordsOf s .taskcount) (recordsOf s .chancount))
+    (chanLine (chanNo (i - recordsOf s .taskcount)) (chanIn (recordsOf s .chans) (chanNo (i - recordsOf s .taskcount))) (rowFor b (chanNo (i - recordsOf s .taskcount))))
+    (stampLine (recordsOf s .stamp) (recordsOf s .fault)))
 
 -- The turn of the pair at the session's place of a schedule, and the line that reports it.
 module _ (rest image : List ℕ) (s : Session) (b : Values) where

@@ -22,10 +22,18 @@ use listing_lines::too_long_line;
 use listing_lines::turn_line;
 use machine::start;
 use machine::turn;
-use machine_state::Change;
-use machine_state::State;
+use machine_records::Change;
+use machine_store::State;
+use machine_store::chan_at;
+use machine_store::chancount_in;
+use machine_store::fault_in;
+use machine_store::stamp_in;
+use machine_store::task_at;
+use machine_store::taskcount_in;
 use meaning::Chan;
 use meaning::Task;
+use meaning::sizes::CELLS;
+use meaning::sizes::CHANS;
 
 // How far a listing has come: the answer, the place of the next pair in the schedule, and the machine. The values stand beside
 // it.
@@ -93,32 +101,36 @@ pub fn line_count(s: Session) -> u32
 {
     let a = s.answer;
     let state = s.state;
-    let pairs = pair_count(a) as u32;
-    pairs + (state.taskcount as u32) + (state.chancount as u32) + 1
+    let words = state.words;
+    let cells = state.cells;
+    let tasks = taskcount_in(&words, &cells);
+    let chans = chancount_in(&words, &cells);
+    (pair_count(a) as u32) + (tasks as u32) + (chans as u32) + 1
 }
 
 // THE LINES
 
 // Line i behind the turns: the tasks, the channels, the stamp.
-fn state_line(i: u32, s: State, values: [[u16; 16]; 16]) -> Line
+fn state_line(i: u32, s: State, values: [[u16; CELLS as usize]; CHANS as usize]) -> Line
     ensures { λ r. ⌜ Shows r (stateLine i s values) ⌝ }
 {
-    let tasks = s.taskcount as u32;
+    let words = s.words;
+    let cells = s.cells;
+    let tasks = taskcount_in(&words, &cells) as u32;
     if i < tasks {
         let task = Task((i % 256) as u8);
-        let at = (task.0 % 16) as usize;
-        let x = s.tasks[at];
+        let x = task_at(&words, &cells, task);
         return task_line(task, x);
     }
     let j = i - tasks;
-    if j < s.chancount as u32 {
+    if j < chancount_in(&words, &cells) as u32 {
         let chan = Chan((j % 256) as u8);
-        let at = (chan.0 % 16) as usize;
-        let x = s.chans[at];
+        let x = chan_at(&words, &cells, chan);
+        let at = (chan.0 % CHANS) as usize;
         let held = values[at];
         return chan_line(chan, x, held);
     }
-    stamp_line(s.stamp, s.fault)
+    stamp_line(stamp_in(&words, &cells), fault_in(&words, &cells))
 }
 
 fn quiet(line: Line, s: Session) -> Listed
@@ -133,7 +145,13 @@ fn quiet(line: Line, s: Session) -> Listed
 }
 
 // The turn of pair i, at the session's place of a schedule.
-fn turn_listed(rest: &[u8], image: &[u8], i: u16, s: Session, values: [[u16; 16]; 16]) -> Listed
+fn turn_listed(
+    rest: &[u8],
+    image: &[u8],
+    i: u16,
+    s: Session,
+    values: [[u16; CELLS as usize]; CHANS as usize],
+) -> Listed
     ensures { λ r. ⌜ (r .session ≡ turnedSession (now (rest .entry)) (now (image .entry)) s values) × (r .change ≡ turnOf (now (rest .entry)) (now (image .entry)) s values .change) × Shows (r .line) (turnedLine (now (rest .entry)) (now (image .entry)) s values i) ⌝ }
 {
     let pair = pair_at(rest, s.at);
@@ -163,7 +181,7 @@ fn run_listed(
     pairs: u16,
     i: u32,
     s: Session,
-    values: [[u16; 16]; 16],
+    values: [[u16; CELLS as usize]; CHANS as usize],
 ) -> Listed
     ensures { λ r. ⌜ (r .session ≡ runSession (now (rest .entry)) (now (image .entry)) s values pairs i) × (r .change ≡ runChange (now (rest .entry)) (now (image .entry)) s values pairs i) × Shows (r .line) (runLine (now (rest .entry)) (now (image .entry)) s values pairs i) ⌝ }
 {
@@ -175,7 +193,13 @@ fn run_listed(
 }
 
 // Line i of a listing, with the input and the buffer that it began with, and the session and values behind the line before.
-pub fn next(input: &[u8], image: &[u8], i: u32, s: Session, values: [[u16; 16]; 16]) -> Listed
+pub fn next(
+    input: &[u8],
+    image: &[u8],
+    i: u32,
+    s: Session,
+    values: [[u16; CELLS as usize]; CHANS as usize],
+) -> Listed
     ensures { λ r. ⌜ (r .session ≡ sessionOf (now (input .entry)) (now (image .entry)) i s values (s .answer)) × (r .change ≡ changeOf (now (input .entry)) (now (image .entry)) i s values (s .answer)) × Shows (r .line) (lineOf (now (input .entry)) (now (image .entry)) i s values (s .answer)) ⌝ }
 {
     let a = s.answer;

@@ -6,7 +6,7 @@ use Prim.Native.Nat.{ℕ, _+_, _-_}
 use lib.Dec.{leb, ltb}
 use lib.ListN.{getD, set, take}
 use Rattle.meaning.specs.Numbers.{capacityLimit}
-use Rattle.machine_state.specs.State.{shifted}
+use Rattle.machine_records.specs.Values.{shifted}
 use Rattle.thin_channel.specs.Kinds.{Channel, Added, Value, No, Took}
 
 -- The values that a channel holds, oldest first.

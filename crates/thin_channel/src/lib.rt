@@ -5,6 +5,7 @@ ghost use Rattle.thin_channel.specs.Channels.{appendedTo, tookFrom};
 
 mod value;
 
+use meaning::sizes::CELLS;
 use value::add_to;
 use value::take_from;
 
@@ -13,7 +14,7 @@ pub struct Channel {
     pub capacity: u8,
     pub closed: bool,
     pub len: u8,
-    pub values: [u16; 16],
+    pub values: [u16; CELLS as usize],
 }
 
 // Whether the value was appended, and the channel afterwards: as it was, where it was not.

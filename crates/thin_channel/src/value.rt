@@ -5,14 +5,16 @@ use crate::Added;
 use crate::Channel;
 use crate::Taken;
 use crate::Took;
-use machine_state::values::shift;
+use machine_buffer::append;
+use machine_buffer::shift;
+use meaning::sizes::CELLS;
 
 pub fn add_to(c: Channel, v: u16) -> Added
     ensures { λ r. ⌜ r ≡ appendedTo c v ⌝ }
 {
     let capacity = c.capacity;
     let len = c.len;
-    if 16 < capacity {
+    if CELLS < capacity {
         return Added {
             ok: false,
             channel: c,
@@ -24,9 +26,10 @@ pub fn add_to(c: Channel, v: u16) -> Added
             channel: c,
         };
     }
+    let mut row = c.values;
+    append(&mut row, len as usize, v);
     let mut after = c;
-    let i = len as usize;
-    after.values[i] = v;
+    after.values = row;
     after.len = len + 1;
     Added {
         ok: true,
@@ -40,7 +43,7 @@ pub fn take_from(c: Channel) -> Took
     let capacity = c.capacity;
     let len = c.len;
     let no = Taken::No;
-    if 16 < capacity {
+    if CELLS < capacity {
         return Took {
             taken: no,
             channel: c,
@@ -60,7 +63,8 @@ pub fn take_from(c: Channel) -> Took
     }
     let row = c.values;
     let oldest = Taken::Value(row[0]);
-    let rest = shift(row, len);
+    let mut rest = row;
+    shift(&mut rest, len as usize);
     let mut after = c;
     after.values = rest;
     after.len = len - 1;

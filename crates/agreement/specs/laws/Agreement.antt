@@ -17,7 +17,7 @@ use Rattle.text_reader.specs.Reading.{got, reading}
 use Rattle.text_laws.specs.laws.Accepted.{accepted-passes, accepted-same}
 use Rattle.translate.specs.Translated.{translated, written}
 use Rattle.translate.specs.laws.Answered.{Holds, image-written}
-use Rattle.machine_fit.specs.Fitting.{fitting}
+use Rattle.machine_fit.specs.Fitted.{fittingIn}
 use Rattle.machine.specs.Public.{started, freshValues}
 use Rattle.machine.specs.Runs.{turns, seenTurns}
 use Rattle.machine.specs.laws.Reached.{reached-fits, reached-means}
@@ -38,7 +38,7 @@ module _ (text : List ℕ) (job : Job) (end rows : ℕ) (accepted : reading text
   text-and-image-agree schedule = accepted-same text job end rows accepted pre schedule ∙ ap (map seenTurn) (sym (reached-means slice image-passes schedule))
 
   -- No turn of such a run is refused by 17.
-  pub never-unfit : (schedule : List (Task × ℕ)) → All (λ r. fitting (bodyOf slice) (countsOf slice) (r .state) ≡ true) (turns slice schedule (started slice .state) freshValues)
+  pub never-unfit : (schedule : List (Task × ℕ)) → All (λ r. fittingIn (bodyOf slice) (countsOf slice) (r .state .words) (r .state .cells) ≡ true) (turns slice schedule (started slice .state) freshValues)
   never-unfit schedule = reached-fits slice image-passes schedule
 
 -- The same over the translation's own answer: a length n for a buffer `out`, and the first n bytes of the buffer afterwards.
@@ -60,5 +60,5 @@ module _ (text out : List ℕ) (n : ℕ) (answer : translated text (length out) 
       text-and-image-agree text (holds .job) (holds .end) (holds .rows) (holds .read) pre schedule
       ∙ ap (λ bs. map seenTurn (seenTurns bs schedule (started bs .state) freshValues)) (sym where-it-stands)
 
-  pub translation-fits : (schedule : List (Task × ℕ)) → All (λ r. fitting (bodyOf translation) (countsOf translation) (r .state) ≡ true) (turns translation schedule (started translation .state) freshValues)
+  pub translation-fits : (schedule : List (Task × ℕ)) → All (λ r. fittingIn (bodyOf translation) (countsOf translation) (r .state .words) (r .state .cells) ≡ true) (turns translation schedule (started translation .state) freshValues)
   translation-fits schedule = reached-fits translation translation-passes schedule

@@ -16,7 +16,8 @@ use Rattle.meaning.specs.Image.{imageCase, imageCases, imageDefault, imageRepea
 use Rattle.meaning.specs.Layout.{caseCount, sizeB, entry, caseRows, defaultRow, rowsB, rowsT, firstRows}
 use Rattle.meaning.specs.Bytes.{fieldsOf, statementOf, rowBytes, firstBytes, imageBytes, jobImage, trailerOf, rowCount, channelCount, taskCount, distance, markOf, versionOf, bodyOf, fieldsOfRow, rowsIn, capacityIn, firstRowIn, rowsOf, capacitiesOf, firstRowsOf, startOf}
 use Rattle.image_rows.specs.Rows.{countsIn, countsOf}
-use Rattle.image_check.specs.Check.{inTable, owedAfter, portGood, opGood, isCaseRow, owedAt, isTarget, otherwiseGood, casesFollow, capacityBad, statementGood, rowGood, rowBad, firstRowBad, firstOf, refusedAt, bodyChecked, countsGood, checked}
+use Rattle.image_row.specs.Row.{inTable, owedAfter, portGood, opGood, isCaseRow, isTarget, otherwiseGood, casesFollow, statementGood, rowGood}
+use Rattle.image_check.specs.Check.{owedAt, capacityBad, rowBad, firstRowBad, firstOf, refusedAt, bodyChecked, countsGood, checked}
 use Rattle.text_words.specs.Words.{wordAt, firstNotAllowed, kindOf, valueOf, startAt, nextAt, bytesAt, numeral, decimal, isNumber, onlyDigits, leadingZero, placeOf, differs, sameWord, reserved, run, inWord, isAllowed, isLetter, isDigit, isBlank}
 use Rattle.text_reader.specs.Reading.{Part, got, none, bad, bind, many, numberBy, closedBy, portBy, opBy, secondBy, caseOp, caseBy, lastBy, casesFrom, stmtBy, bodyFrom, chanBy, chansFrom, taskEnd, taskBy, tasksFrom, job, reading}
 use Rattle.translate.specs.declared.Translated.the-variants.{Refused}

@@ -11,23 +11,23 @@ use Rattle.bench.proofs.after_pairs.Statement.{statement}
 use Rattle.bench.proofs.after_pairs.Tie as tie
 
 abbrev Inv-loop : tie.InvT-loop
-Inv-loop image pairs whole task choice rounds s₀ values₀ i₀ s values i = (i ≤ length pairs) × (afterPairs image task choice rounds whole pairs (started image .state) freshValues ≡ afterPairs image task choice rounds whole (drop i pairs) s values)
+Inv-loop image pairs way task choice rounds s₀ values₀ i₀ s values i = (i ≤ length pairs) × (afterPairs image task choice rounds way pairs (started image .state) freshValues ≡ afterPairs image task choice rounds way (drop i pairs) s values)
 
 abbrev μ-loop : tie.MeasureT-loop
-μ-loop image pairs whole task choice rounds s₀ values₀ i₀ s values i = length pairs - i
+μ-loop image pairs way task choice rounds s₀ values₀ i₀ s values i = length pairs - i
 
 loop-again : tie.Need-loop-again Inv-loop μ-loop
 loop-again c =
     let a = c .before .before .before .before .before .before .before .before .before .before .before .before .args in
     let l = c .before .before .before .before .before .before .loop in
-    let p = pair-step (now (a .image)) (a .task) (a .choice) (a .rounds) (a .whole) (now (a .pairs)) (l .i) (l .s) (l .values) (omega arith) in
+    let p = pair-step (now (a .image)) (a .task) (a .choice) (a .rounds) (a .way) (now (a .pairs)) (l .i) (l .s) (l .values) (omega arith) in
     (search needs, l .inv .1 ∙ p ∙ rw (c .before .stored .ensures, c .before .before .turn .ensures .0))
 
 returns : tie.Need-returns Inv-loop μ-loop
 returns c =
     let a = c .before .before .before .before .before .before .before .before .args in
     let l = c .before .before .loop in
-    let e = pairs-end (now (a .image)) (a .task) (a .choice) (a .rounds) (a .whole) (now (a .pairs)) (l .i) (l .s) (l .values) (omega arith) in
+    let e = pairs-end (now (a .image)) (a .task) (a .choice) (a .rounds) (a .way) (now (a .pairs)) (l .i) (l .s) (l .values) (omega arith) in
     sym (l .inv .1 ∙ e ∙ sym (c .rounds-of .ensures))
 
 pub after-pairs-spec : {M : Type 1} → statement M

@@ -14,7 +14,7 @@ use Rattle.text_laws.specs.laws.Places.{refused-within}
 use Rattle.listing_answer.specs.Kinds.{Image}
 use Rattle.translate.specs.declared.Translated.the-variants.{Refused}
 use Rattle.translate.specs.Translated.{translatedTo, translated}
-use Rattle.translate.specs.laws.Read.{IsJob, in-limits, image-size}
+use Rattle.translate_rows.specs.laws.Read.{IsJob, in-limits, image-size}
 
 module _ (text : List ℕ) (small : length text ≤ 48000) where
   -- The length that a buffer would need is that of an image.

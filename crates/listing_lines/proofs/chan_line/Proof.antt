@@ -2,7 +2,7 @@ use mathlib.Core.Path.{_≡_, _∙_}
 use native.Mathlib.Omega.{arith}
 use borrow.Author.Needs.{needs}
 use lib.ListN.{length, take, length-take}
-use Rattle.machine_state.specs.laws.Cells.{length-mapped}
+use Rattle.machine_records.specs.laws.Cells.{length-mapped}
 use Rattle.listing_lines.specs.Lines.{chanLine}
 use Rattle.listing_lines.specs.laws.Lines.{adds-more, shows-line, line-append, take-most}
 use Rattle.listing_lines.proofs.chan_line.Statement.{statement}

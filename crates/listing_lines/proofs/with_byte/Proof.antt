@@ -5,7 +5,7 @@ use native.Mathlib.Omega.{arith}
 use borrow.Author.Needs.{needs}
 use lib.ListN.{length}
 use lib.Seq.{take-suc-set, drop-set-lt}
-use Rattle.machine_state.specs.laws.Cells.{length-mapped}
+use Rattle.machine_records.specs.laws.Cells.{length-mapped}
 use Rattle.listing_lines.proofs.with_byte.Statement.{statement}
 use Rattle.listing_lines.proofs.with_byte.Tie as tie
 

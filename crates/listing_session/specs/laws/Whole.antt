@@ -11,7 +11,8 @@ use Rattle.meaning.specs.Numbers.{inputLimit}
 use Rattle.translate.specs.declared.Translated.the-variants as t
 use Rattle.translate.specs.Translated.{translated, written}
 use Rattle.image_check.specs.Check.{checked}
-use Rattle.machine_state.specs.State.{Values, changed}
+use Rattle.machine_records.specs.Values.{Values, changed}
+use Rattle.machine_store.specs.Store.{recordsIn, recordsOf}
 use Rattle.machine.specs.Public.{started, freshValues}
 use Rattle.listing_input.specs.Input.{splitOf, scheduleOf, pairAt}
 use Rattle.listing_input.specs.laws.Input.{walked, walk-exact, pairs-within}
@@ -66,15 +67,15 @@ module _ (input image : List ℕ) where
   alone a e = rw e (append-nil _)
 
   too-long : linesOf TooLong ≡ tooLongLine
-  unfolding started checked
+  unfolding started checked recordsIn
   too-long = alone TooLong refl
 
   refused : (number place : ℕ) → linesOf (Refused number place) ≡ refusedLine number place
-  unfolding started checked
+  unfolding started checked recordsIn
   refused number place = alone (Refused number place) refl
 
   bad-schedule : linesOf BadSchedule ≡ badScheduleLine
-  unfolding started checked
+  unfolding started checked recordsIn
   bad-schedule = alone BadSchedule refl
 
   by-schedule : length input ≤ inputLimit → (n : ℕ) (given : Schedule) → scheduleOf (scheduleIn input) ≡ given → linesOf (scheduled n (splitOf input .rest) given) ≡ scheduleListing (take n image) (scheduleIn input) given
@@ -85,7 +86,7 @@ module _ (input image : List ℕ) where
       let w = pairs-within (scheduleIn input) m e in
       let l = length-drop (splitOf input .rest) input in
       let q : m % 65536 ≡ m = omega arith in
-      let z : m + s .taskcount + s .chancount + 1 ≡ m + endLines s = omega arith in
+      let z : m + recordsOf s .taskcount + recordsOf s .chancount + 1 ≡ m + endLines s = omega arith in
       rw (q, z) (turns-listed input image n m (splitOf input .rest) (endLines s) m 0 0 s freshValues (omega arith) ∙ ap (λ ps. runLines (take n image) (endLines s) 0 ps s freshValues) (walk-exact (scheduleIn input) m e .0))
 
 by-text : (input out : List ℕ) → length input ≤ inputLimit → (r : Translated) → translated (textIn input) (length out) ≡ r → linesOf input (written (textIn input) out) (answeredAs input r) ≡ textListing input out r

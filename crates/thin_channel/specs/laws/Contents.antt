@@ -6,12 +6,11 @@ use Prim.Native.Nat.{ℕ, _-_, _≤_, _<_}
 use native.Mathlib.Numerals.{add-one}
 use native.Mathlib.Omega.{arith}
 use borrow.Author.Tests.{leb-true, ltb-true}
-use lib.ListN.{length, drop, length-take, length-drop}
+use lib.ListN.{length, drop, replicate, length-take, length-drop}
 use lib.Seq.{take-suc-set, drop-cons, getD-take}
 use Rattle.meaning.specs.Numbers.{capacityLimit}
 use Rattle.meaning.specs.laws.Tests.{both}
-use Rattle.machine_state.specs.laws.Cells.{take-over}
-use Rattle.machine_state.specs.State.{noValues}
+use Rattle.machine_records.specs.laws.Cells.{take-over}
 use Rattle.thin_channel.specs.Kinds.{Channel, Value, No}
 use Rattle.thin_channel.specs.Channels.{contents, hasRoom, hasValue, oldest, shorter, appendedTo, tookFrom}
 
@@ -39,7 +38,7 @@ take-takes c cells value =
     let some : 1 ≤ c .len = leb-true _ _ (more .1) in
     let all : length (contents c) ≡ c .len = simp length-take (omega arith) in
     let left : length (drop 1 (contents c)) ≡ c .len - 1 = simp length-drop (omega arith) in
-    let rest : contents (shorter c) ≡ drop 1 (contents c) = rw (← left) (take-over (drop 1 (contents c)) noValues) in
+    let rest : contents (shorter c) ≡ drop 1 (contents c) = rw (← left) (take-over (drop 1 (contents c)) (replicate (length (c .values)) 0)) in
     (rw value, rw (value, rest) (drop-cons (contents c) 0 0 (omega arith) ∙ ap (λ x. x ∷ drop 1 (contents c)) (getD-take (c .len) (c .values) 0 0 (omega arith))))
 
 pub take-refuses : (c : Channel) → hasValue c ≡ false → (tookFrom c .taken ≡ No) × (tookFrom c .channel ≡ c)

@@ -14,9 +14,11 @@ returns-2 c = rw (le-leb _ _ (c .before .if1 .left), le-ltb _ _ (c .if2 .taken))
 
 returns-3 : tie.Need-returns-3
 unfolding appendedTo
-returns-3 c = rw (le-leb _ _ (c .before .if1 .left), lt-ltb _ _ (c .if2 .left))
+returns-3 c =
+    let room = c .before .before .before .before in
+    rw (le-leb _ _ (room .before .if1 .left), lt-ltb _ _ (room .if2 .left), c .before .append .ensures)
 
 pub add-to-spec : {M : Type 1} → statement M
 add-to-spec =
     tie.close
-    (tie.spec returns returns-2 (λ c. search needs) (λ c. search needs) (λ c. search needs) (λ c. search needs) returns-3)
+    (tie.spec returns returns-2 (λ c. search needs) (λ c. search needs) (λ c κs. search needs) (λ c. search needs) returns-3)

@@ -18,8 +18,10 @@ returns-3 c = rw (le-leb _ _ (c .before .before .if1 .left), le-leb _ _ (c .befo
 
 returns-4 : tie.Need-returns-4
 unfolding tookFrom
-returns-4 c = rw (le-leb _ _ (c .before .before .before .before .if1 .left), le-leb _ _ (c .before .before .before .if2 .left), le-leb _ _ (c .before .before .if3 .left), c .shift .ensures)
+returns-4 c =
+    let value = c .before .before .before .before in
+    rw (le-leb _ _ (value .before .before .if1 .left), le-leb _ _ (value .before .if2 .left), le-leb _ _ (value .if3 .left), c .before .shift .ensures)
 
 pub take-from-spec : {M : Type 1} → statement M
 take-from-spec =
-    tie.close (tie.spec returns returns-2 returns-3 (λ c. search needs) (λ c κs. search needs) returns-4)
+    tie.close (tie.spec returns returns-2 returns-3 (λ c. search needs) (λ c. search needs) (λ c. search needs) (λ c κs. search needs) returns-4)

@@ -1,4 +1,0 @@
-pub mod Kinds
-pub mod Cells
-pub mod State
-pub mod laws

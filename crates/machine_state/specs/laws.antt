@@ -1,2 +1,0 @@
--- What is proved of the definitions: nothing here has to be believed.
-pub mod Cells
