@@ -1,11 +1,12 @@
-/* `bench KIND ROUNDS` makes one turn, one image check, one fit or one translation so many times by the library, `bench KIND ROUNDS
-   plain` by the plain C of plain.c. It fails where an answer is not the one that is due. */
+/* `bench KIND ROUNDS` makes one turn, one start, one image check, one fit or one translation so many times by the library, `bench
+   KIND ROUNDS plain` by the plain C of plain.c. It fails where an answer is not the one that is due. */
 #include "images.h"
 #include "plain.h"
 #include "texts.h"
 size_t bench_translate(const uint8_t *text, size_t n, uint8_t *image, size_t image_n);
 uint32_t bench_check(const uint8_t *image, size_t n);
-uint16_t bench_rounds(const uint8_t *image, size_t n, const uint8_t *pairs, size_t pairs_n, _Bool whole, uint8_t task, uint8_t choice, uint32_t rounds);
+uint16_t bench_start(const uint8_t *image, size_t n);
+uint16_t bench_rounds(const uint8_t *image, size_t n, const uint8_t *pairs, size_t pairs_n, uint8_t way, uint8_t task, uint8_t choice, uint32_t rounds);
 uint16_t bench_fit(const uint8_t *image, size_t n, const uint8_t *pairs, size_t pairs_n, uint32_t rounds);
 
 /* Two images of 1,024 rows and two tasks: a send and then stops, and sends up to two stops. */
@@ -18,8 +19,9 @@ static void make_long(uint8_t *p, int n) {
     for (size_t i = 0; i < sizeof tail; i++) p[i] = tail[i];
 }
 
-/* What is made again and again: a step, a turn, a fit, a check; from the state that the pairs lead to. */
-enum what { STEP, TURN, FIT, CHECK };
+/* What is made again and again, from the state that the pairs lead to: a step in place, a step by value, a turn (the ways of
+   bench_rounds), a start, a fit, a check. */
+enum what { STEP, VALUE, TURN, START, FIT, CHECK };
 typedef struct { const char *name; enum what what; const uint8_t *image; size_t n; const uint8_t *pairs; size_t pairs_n; uint8_t task; } kind_t;
 static const uint8_t none[1], one_turn[2] = {0, 0};
 static const uint8_t all_wait[30] = {0, 0, 1, 0, 2, 0, 3, 0, 4, 0, 5, 0, 6, 0, 7, 0, 8, 0, 9, 0, 10, 0, 11, 0, 12, 0, 13, 0, 14, 0};
@@ -28,6 +30,13 @@ static const kind_t kinds[] = {
     {"receive", STEP, pass, sizeof pass, one_turn, 2, 1},
     {"select", STEP, select8, sizeof select8, none, 0, 0},
     {"close", STEP, close15, sizeof close15, all_wait, 30, 15},
+    {"send-15", STEP, send15, sizeof send15, all_wait, 30, 15},
+    {"send-by-value", VALUE, pass, sizeof pass, none, 0, 0},
+    {"receive-by-value", VALUE, pass, sizeof pass, one_turn, 2, 1},
+    {"select-by-value", VALUE, select8, sizeof select8, none, 0, 0},
+    {"close-by-value", VALUE, close15, sizeof close15, all_wait, 30, 15},
+    {"send-15-by-value", VALUE, send15, sizeof send15, all_wait, 30, 15},
+    {"start-4", START, pass, sizeof pass, none, 0, 0},
     {"turn-4", TURN, pass, sizeof pass, none, 0, 0},
     {"turn-32", TURN, close15, sizeof close15, all_wait, 30, 15},
     {"turn-1024", TURN, stops, sizeof stops, none, 0, 0},
@@ -45,7 +54,10 @@ static int library_rounds(const kind_t *k, uint32_t n) {
     case CHECK:
         for (; n; n--) if (bench_check(k->image, k->n)) return 1;
         return 0;
-    default: return bench_rounds(k->image, k->n, k->pairs, k->pairs_n, k->what == TURN, k->task, 0, n) != k->pairs_n / 2 + n;
+    case START:
+        for (; n; n--) if (bench_start(k->image, k->n)) return 1;
+        return 0;
+    default: return bench_rounds(k->image, k->n, k->pairs, k->pairs_n, k->what, k->task, 0, n) != k->pairs_n / 2 + 1;
     }
 }
 /* Each round begins at the same state. Copied by the byte, so that no memcpy is counted as a turn's. */
@@ -60,6 +72,7 @@ static int plain_round(const kind_t *k, const plain_machine *from) {
     switch (k->what) {
     case FIT: return !plain_fits(body, rows, trailer[2], trailer[3], from);
     case CHECK: return plain_check(k->image, k->n, &place);
+    case START: return plain_start(k->image, k->n, &m);
     case TURN: again(&m, from); plain_turn(k->image, k->n, &m, k->task, 0); break;
     default: again(&m, from); plain_step(body, rows, &m, k->task, 0);
     }
@@ -73,16 +86,15 @@ static int plain_rounds(const kind_t *k, uint32_t n) {
     return 0;
 }
 /* A text is translated by both first, and their images compared. */
-static int translations(uint32_t rounds, int plain, int depth, const char *block) {
+static int translations(uint32_t rounds, int plain) {
     static uint8_t other[sizeof image_out];
     plain_refusal r;
-    make_text(depth, block);
-    size_t n = bench_translate(text, sizeof text, image_out, sizeof image_out);
-    if (n == 0 || n != plain_translate(text, sizeof text, other, sizeof other, &r)) return 1;
+    size_t n = bench_translate(text, text_size, image_out, sizeof image_out);
+    if (n == 0 || n != plain_translate(text, text_size, other, sizeof other, &r)) return 1;
     for (size_t i = 0; i < n; i++) if (image_out[i] != other[i]) return 1;
     for (; rounds; rounds--) {
-        if (plain) plain_translate(text, sizeof text, other, sizeof other, &r);
-        else bench_translate(text, sizeof text, image_out, sizeof image_out);
+        if (plain) plain_translate(text, text_size, other, sizeof other, &r);
+        else bench_translate(text, text_size, image_out, sizeof image_out);
     }
     return 0;
 }
@@ -101,8 +113,11 @@ int main(int argc, char **argv) {
     for (size_t i = 0; i < sizeof kinds / sizeof kinds[0]; i++) {
         if (same(argv[1], kinds[i].name)) return plain ? plain_rounds(&kinds[i], n) : library_rounds(&kinds[i], n);
     }
-    if (same(argv[1], "flat")) return translations(n, plain, 0, "");
-    if (same(argv[1], "repeats")) return translations(n, plain, 6, "repeat 1 ");
-    if (same(argv[1], "selects")) return translations(n, plain, 6, "select case recv 0 ");
-    return 2;
+    if (same(argv[1], "flat")) make_sends(0, "");
+    else if (same(argv[1], "repeats")) make_sends(6, "repeat 1 ");
+    else if (same(argv[1], "selects")) make_sends(6, "select case recv 0 ");
+    else if (same(argv[1], "every-kind")) make_every_kind();
+    else if (same(argv[1], "listing")) make_listing();
+    else return 2;
+    return translations(n, plain);
 }

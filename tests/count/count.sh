@@ -1,5 +1,5 @@
 #!/bin/sh
-# Exact x86-64 instructions of one turn, one image check, one fit and one translation, by the library and by plain C: a run of N
+# Exact x86-64 instructions of one turn, one start, one image check, one fit and one translation, by the library and by plain C: a run of N
 # rounds and one of 2N, and their difference divided by N, so that everything but the rounds falls out. A benchmark and no test.
 #
 # On x86-64 the program is an ordinary one with the C library's memcpy, and valgrind counts; where there is none it is installed.
@@ -81,7 +81,8 @@ emulated() {
 # count KIND ROUNDS WHO [plain]: the instructions of one round, by function, and in the file $out/total their sum and the memcpy in
 # it. What stands around the rounds is shown and left out: some 10 instructions a round around the library's, more where the
 # compiler has laid what is counted into the loop, and then the count is wrong. The fit is laid into bench_fit, which is therefore
-# counted whole: some 8 instructions of it are the loop's.
+# counted whole: some 8 instructions of it are the loop's; so is a step by value into bench_rounds, whose copies in and out are the
+# step's own. A step in place begins each round with a copy of the state, a memcpy among it, that is the loop's.
 count() {
     kind=$1 n=$2 who=$3
     shift 3
@@ -89,17 +90,23 @@ count() {
         $way "$kind" "$k" "$@" >$out/"$k" || { echo "count: bench $kind failed" >&2; exit 1; }
     done
     sort -t "$tab" -k 2,2nr $out/$((2 * n)) >$out/twice
-    awk -F '\t' -v n="$n" -v who="$who" -v total="$out/total" '
+    loops='main|library_rounds|plain_rounds?|again|translations|bench::.*'
+    case $kind in
+    *-by-value) ;;
+    send* | receive | select | close) loops="$loops|bench_rounds|mem(cpy|move|set)" ;;
+    *) loops="$loops|bench_rounds" ;;
+    esac
+    awk -F '\t' -v n="$n" -v who="$who" -v loops="^($loops)\$" -v total="$out/total" '
         FNR == NR { once[$1] = $2; next }
         $2 <= once[$1] { next }
         { v = ($2 - once[$1]) / n }
-        $1 ~ /^(main|library_rounds|plain_rounds?|again|translations|bench_rounds|bench::.*)$/ { around[$1] = v; next }
+        $1 ~ loops { around[$1] = v; next }
         { t += v; printf "        %-36s %12.1f\n", $1, v }
         $1 ~ /^mem(cpy|move|set)$/ { m += v }
         END {
             printf "    %-40s %12.1f\n", who, t
             for (name in around) { a += around[name]; printf "        (around it: %s %.1f)\n", name, around[name] }
-            if (who == "library" && a > 50) print "count: the loop itself takes " a " instructions, so the count is not to be trusted" >"/dev/stderr"
+            if (who == "library" && a > 60) print "count: the loop itself takes " a " instructions, so the count is not to be trusted" >"/dev/stderr"
             printf "%.1f %.1f\n", t, m >total
         }' $out/"$n" $out/twice
 }
@@ -120,10 +127,17 @@ kind() { # kind KIND ROUNDS NAME
 kinds="$*" rounds=${N:-10} tab=$(printf '\t')
 "build_$way"
 printf '| | library | of it memcpy | plain C | library / plain C |\n|---|---|---|---|---|\n' >$out/table
-kind send "$rounds" 'send into a buffer of one (step alone)'
-kind receive "$rounds" 'receive from a buffer of one (step alone)'
-kind select "$rounds" 'select of 8 cases, the last one ready (step alone)'
-kind close "$rounds" 'close that wakes 15 (step alone)'
+kind send "$rounds" 'send into a buffer of one, in place'
+kind receive "$rounds" 'receive from a buffer of one, in place'
+kind send-15 "$rounds" 'send to the 15th waiting, in place'
+kind select "$rounds" 'select of 8 cases, the last one ready, in place'
+kind close "$rounds" 'close that wakes 15, in place'
+kind send-by-value "$rounds" 'send into a buffer of one, by value'
+kind receive-by-value "$rounds" 'receive from a buffer of one, by value'
+kind send-15-by-value "$rounds" 'send to the 15th waiting, by value'
+kind select-by-value "$rounds" 'select of 8 cases, the last one ready, by value'
+kind close-by-value "$rounds" 'close that wakes 15, by value'
+kind start-4 "$rounds" 'start of an image of 4 rows'
 kind turn-4 "$rounds" 'send as a whole turn, image of 4 rows'
 kind turn-32 "$rounds" 'close that wakes 15 as a whole turn, image of 32 rows'
 kind turn-1024 1 'send as a whole turn, image of 1,024 rows'
@@ -136,6 +150,8 @@ kind fit-16 "$rounds" 'fit of 16 tasks, 15 waiting'
 kind flat 1 'translation of 16,384 bytes, depth 0'
 kind repeats 1 'translation of 16,384 bytes, six repeats deep'
 kind selects 1 'translation of 16,384 bytes, six selects deep'
+kind every-kind 1 'translation of 1,020 rows of every kind'
+kind listing 1 "translation of the listing's job"
 [ "$(wc -l <$out/table)" -gt 2 ] || { echo "count: no such kind: $kinds" >&2; exit 2; }
 echo "$way; C by $compiler, -O2; memcpy: $memory"
 cat $out/table

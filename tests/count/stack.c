@@ -7,13 +7,13 @@
 #define PAINT 0xA5
 size_t bench_translate(const uint8_t *text, size_t n, uint8_t *image, size_t image_n);
 uint32_t bench_check(const uint8_t *image, size_t n);
-uint16_t bench_rounds(const uint8_t *image, size_t n, const uint8_t *pairs, size_t pairs_n, _Bool whole, uint8_t task, uint8_t choice, uint32_t rounds);
+uint16_t bench_rounds(const uint8_t *image, size_t n, const uint8_t *pairs, size_t pairs_n, uint8_t way, uint8_t task, uint8_t choice, uint32_t rounds);
 static const uint8_t none[1];
 
 static void nothing(void) { __asm__ volatile(""); }
-static void translation(void) { bench_translate(text, sizeof text, image_out, sizeof image_out); }
+static void translation(void) { bench_translate(text, text_size, image_out, sizeof image_out); }
 static void image_check(void) { bench_check(pass, sizeof pass); }
-static void whole_turn(void) { bench_rounds(pass, sizeof pass, none, 0, 1, 0, 0, 1); }
+static void whole_turn(void) { bench_rounds(pass, sizeof pass, none, 0, 2, 0, 0, 1); }
 
 static size_t used(void (*f)(void)) {
     static uint8_t area[AREA] __attribute__((aligned(16)));
@@ -27,12 +27,16 @@ static size_t used(void (*f)(void)) {
 }
 int main(void) {
     size_t base = used(nothing);
-    make_text(0, "");
+    make_sends(0, "");
     say("translation of 16,384 bytes, depth 0: ", used(translation) - base);
-    make_text(6, "repeat 1 ");
+    make_sends(6, "repeat 1 ");
     say("translation of 16,384 bytes, six repeats deep: ", used(translation) - base);
-    make_text(6, "select case recv 0 ");
+    make_sends(6, "select case recv 0 ");
     say("translation of 16,384 bytes, six selects deep: ", used(translation) - base);
+    make_every_kind();
+    say("translation of 1,020 rows of every kind: ", used(translation) - base);
+    make_listing();
+    say("translation of the listing's job: ", used(translation) - base);
     say("image check: ", used(image_check) - base);
     say("start and whole turn: ", used(whole_turn) - base);
     return 0;
