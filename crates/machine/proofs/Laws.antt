@@ -3,41 +3,19 @@ use mathlib.Core.Path.{_≡_, refl, sym, ap, ap₂, _∙_}
 use mathlib.Core.Bool.{cond}
 use mathlib.Core.List.{List, [], _∷_}
 use Prim.Native.Nat.{ℕ, zero, suc, _+_, _%_, _<_, _≤_}
-use native.Mathlib.Nat.{le-of-suc-le-suc, not-suc-le-zero, mod-eq-of-lt}
+use native.Mathlib.Nat.{mod-eq-of-lt}
 use native.Mathlib.Decide.{decLt}
 use native.Mathlib.Omega.{arith}
 use borrow.Author.Tests.{lt-ltb, le-ltb}
 use lib.Dec.{ltb}
 use lib.ListN.{length, getD, set, replicate}
-use mir.Syntax.{w16}
-use mir.Val.{Val}
-use denote.RattleType.{RattleType}
-use denote.Laws.{Is}
-use denote.Shadow.{shadow}
-use denote.Plain.{UInt}
-use denote.Array.{Array, each}
-use Rattle.machine.specs.Kinds.{Row, Counts, TaskState, Moved, State}
+use Rattle.machine.specs.Kinds.{Row, Counts, TaskState}
 use Rattle.meaning.specs.Image.{rowNo, taskNo}
 use Rattle.meaning.specs.Bytes.{tabulate, firstRowIn}
 use Rattle.machine_records.specs.Records.{Records, blankTask, taskIn, withCounts, taskWent}
-use Rattle.machine_records.specs.Plans.{Done}
-use Rattle.machine_store.specs.Store.{recordsIn, Plain, doneIn}
+use Rattle.machine_store.specs.Store.{recordsIn, Plain}
 use Rattle.machine_store.specs.laws.Tables.{table-set, table-at}
-use Rattle.machine_store.specs.laws.Again.{words-again, cells-again}
-use Rattle.machine.specs.Public.{stateOf, freshTask, freshTasks, freshRecords, turnedAs}
-
--- ONE STORE FOR ONE STATE
-
-module _ (w c : List ℕ) (lw : length w ≡ 33) (lc : length c ≡ 181) (p : Plain c) where
-  abbrev held : State
-  held = record { words = w; cells = c }
-
-  pub state-again : (s : Records) → recordsIn w c ≡ s → held ≡ stateOf s
-  state-again s e = sym (ap₂ (λ w c. record { words = w; cells = c }) (words-again w c lw) (cells-again w c lc p)) ∙ ap stateOf e
-
-  -- A turn in place, told cell by cell.
-  pub turn-told : (m : Moved) (d : Done) → doneIn w c m ≡ d → record { event = m .event; state = held; change = m .change } ≡ turnedAs d
-  turn-told m d e = ap (λ s. record { event = m .event; state = s; change = m .change }) (state-again (recordsIn w c) refl) ∙ ap turnedAs e
+use Rattle.machine.specs.Public.{freshTask, freshTasks, freshRecords}
 
 -- A FRESH START: nothing but zeros, then task behind task at its first row
 
@@ -79,19 +57,3 @@ module _ (rs : List ℕ) (k : Counts) where
       let all = table-set (standing t) (standing (t + 1)) 16 0 t t (omega arith) h (λ j d a b. rw (one-more t j d)) in
       let was : taskIn (freshTasks rs k t) (taskNo t) ≡ standing t (0 + t % 16) = table-at (standing t) 16 0 (t % 16) blankTask (omega arith) in
       rw (ez, es, was, mod-eq-of-lt h) (ap (λ xs. freshRecords xs n m) (sym (all ∙ ap (set (tabulate (standing t) 16 0) t) here)))
-
--- The rows of an array of arrays have sixteen cells each: what is known of the array says it element by element.
-abbrev CellRow : RattleType
-CellRow = Array (UInt w16) 16
-
-each-row : (xs : List (CellRow .Denot)) (us : List Val) → shadow (each (CellRow .Denot) (CellRow .own) xs us) → (j : ℕ) → j < length xs
-    → length (getD xs j []) ≡ 16
-each-row [] us s j h = absurd (not-suc-le-zero h)
-each-row (x ∷ xs) [] s j h = absurd s
-each-row (x ∷ xs) (u ∷ us) s zero h = s .0 .1 .0 .1
-each-row (x ∷ xs) (u ∷ us) s (suc j) h = each-row xs us (s .1) j (le-of-suc-le-suc h)
-
-pub rows-length : (xs : List (CellRow .Denot)) (vs : List Val) → Is (Array CellRow 16) xs vs → (j : ℕ) → j < 16 → length (getD xs j []) ≡ 16
-rows-length xs vs p j h =
-    let n : length xs ≡ 16 = p .1 .0 .1 in
-    each-row xs (p .0) (p .1 .1) j (omega arith)

@@ -36,7 +36,7 @@ use meaning::sizes::CELLS;
 use meaning::sizes::CHANS;
 
 // The state does not fit the image.
-const UNFIT: u8 = 17;
+pub const UNFIT: u8 = 17;
 
 // A start's answer: the check's, and the fresh state; a state with no task where the image is refused.
 pub struct Started {

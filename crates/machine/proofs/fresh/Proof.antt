@@ -6,7 +6,8 @@ use borrow.Author.Needs.{needs}
 use Rattle.machine_records.specs.Records.{Records}
 use Rattle.machine_store.specs.Store.{recordsIn, Plain}
 use Rattle.machine.specs.Public.{freshTasks, freshRecords, freshState}
-use Rattle.machine.proofs.Laws.{state-again, blank-plain, fresh-counted, fresh-lap}
+use Rattle.machine.specs.laws.Told.{state-again}
+use Rattle.machine.proofs.Laws.{blank-plain, fresh-counted, fresh-lap}
 use Rattle.machine.proofs.fresh.Statement.{statement}
 use Rattle.machine.proofs.fresh.Tie as tie
 

@@ -3,7 +3,7 @@ use borrow.Author.Needs.{needs}
 use Rattle.machine_records.specs.Step.{stepped}
 use Rattle.machine_store.specs.Store.{recordsOf}
 use Rattle.machine_fit.specs.laws.Plain.{fitting-parts}
-use Rattle.machine.proofs.Laws.{turn-told}
+use Rattle.machine.specs.laws.Told.{turn-told}
 use Rattle.machine.proofs.step.Statement.{statement}
 use Rattle.machine.proofs.step.Tie as tie
 

@@ -8,7 +8,7 @@ use Rattle.machine_store.specs.Store.{recordsOf}
 use Rattle.machine_store.specs.laws.Again.{records-sized}
 use Rattle.machine.specs.Public.{turned, Means}
 use Rattle.machine.specs.laws.Meant.{turned-means}
-use Rattle.machine.proofs.Laws.{rows-length}
+use Rattle.machine.specs.laws.Told.{rows-length}
 use Rattle.machine.proofs.turn.Statement.{statement}
 use Rattle.machine.proofs.turn.Tie as tie
 
