@@ -1,0 +1,4 @@
+-- What is proved of the definitions: nothing here has to be believed.
+pub mod Single
+pub mod Laps
+pub mod Done
