@@ -79,15 +79,15 @@ abbrev pub ifDone : {A : Type 0} → Outcome → A → A → A
 ifDone (Outcome.Done n) made kept = made
 ifDone (Outcome.Refused n i) made kept = kept
 
-module _ (bs : List ℕ) (s : State) (b : Values) (pairs records : List ℕ) where
-  abbrev pub decided : Outcome
-  decided = outcome bs s (length pairs) (length records)
+abbrev pub decided : List ℕ → State → List ℕ → List ℕ → Outcome
+decided bs s pairs records = outcome bs s (length pairs) (length records)
 
+module _ (bs : List ℕ) (s : State) (b : Values) (pairs records : List ℕ) where
   abbrev pub scheduled : Scheduled
-  scheduled = record { outcome = decided; state = ifDone decided (stateBehind bs (pairsOf pairs) s b) s }
+  scheduled = (let o = decided bs s pairs records in record { outcome = o; state = ifDone o (stateBehind bs (pairsOf pairs) s b) s })
 
   abbrev pub valuesAfter : Values
-  valuesAfter = ifDone decided (valuesBehind bs (pairsOf pairs) s b) b
+  valuesAfter = ifDone (decided bs s pairs records) (valuesBehind bs (pairsOf pairs) s b) b
 
   abbrev pub recordsAfter : List ℕ
-  recordsAfter = ifDone decided (sets records 0 (eventRecords bs (pairsOf pairs) s b)) records
+  recordsAfter = ifDone (decided bs s pairs records) (sets records 0 (eventRecords bs (pairsOf pairs) s b)) records

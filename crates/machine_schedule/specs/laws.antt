@@ -2,3 +2,4 @@
 pub mod Single
 pub mod Laps
 pub mod Done
+pub mod Examples

@@ -58,7 +58,7 @@ room-for n room e h =
     ]
 
 -- What is answered and left, of a call that is refused and of one that has made its turns.
-module _ (bs : List ℕ) (s : State) (b : Values) (pairs records : List ℕ) (o : Outcome) (e : o ≡ decided bs s b pairs records) where
+module _ (bs : List ℕ) (s : State) (b : Values) (pairs records : List ℕ) (o : Outcome) (e : o ≡ decided bs s pairs records) where
   abbrev Left : State → Values → List ℕ → Type 0
   Left s′ b′ records′ =
       (record { outcome = o; state = s′ } ≡ scheduled bs s b pairs records)
@@ -67,7 +67,7 @@ module _ (bs : List ℕ) (s : State) (b : Values) (pairs records : List ℕ) (o 
 
   pub left-as-it-was : (n i : ℕ) → o ≡ Outcome.Refused n i → Left s b records
   left-as-it-was n i d =
-      let r : decided bs s b pairs records ≡ Outcome.Refused n i = sym e ∙ d in (
+      let r : decided bs s pairs records ≡ Outcome.Refused n i = sym e ∙ d in (
         ap₂ (λ o s. record { outcome = o; state = s }) e (sym (ap (λ o. ifDone o (stateBehind bs (pairsOf pairs) s b) s) r)),
         sym (ap (λ o. ifDone o (valuesBehind bs (pairsOf pairs) s b) b) r),
         sym (ap (λ o. ifDone o (sets records 0 (eventRecords bs (pairsOf pairs) s b)) records) r),
@@ -75,7 +75,7 @@ module _ (bs : List ℕ) (s : State) (b : Values) (pairs records : List ℕ) (o 
 
   pub left-turned : (n : ℕ) → o ≡ Outcome.Done n → (w c : List ℕ) (b′ : Values) (records′ : List ℕ) → Ran bs (s .words) (s .cells) b pairs records w c b′ records′ → Left (stateIn w c) b′ records′
   left-turned n d w c b′ records′ ran =
-      let r : decided bs s b pairs records ≡ Outcome.Done n = sym e ∙ d in (
+      let r : decided bs s pairs records ≡ Outcome.Done n = sym e ∙ d in (
         ap₂ (λ o s. record { outcome = o; state = s }) e (ran .state ∙ sym (ap (λ o. ifDone o (stateBehind bs (pairsOf pairs) s b) s) r)),
         ran .values ∙ sym (ap (λ o. ifDone o (valuesBehind bs (pairsOf pairs) s b) b) r),
         ran .records ∙ sym (ap (λ o. ifDone o (sets records 0 (eventRecords bs (pairsOf pairs) s b)) records) r),

@@ -11,7 +11,7 @@ use Rattle.events.specs.Record.{eventRecord}
 use Rattle.machine_records.specs.Values.{Values, changed}
 use Rattle.machine.specs.Public.{turned}
 use Rattle.machine.specs.Runs.{turns}
-use Rattle.machine_schedule.specs.Schedule.{eventRecords}
+use Rattle.machine_schedule.specs.Schedule.{stateBehind, valuesBehind, eventRecords}
 
 -- The record of the n-th turn stands at the n-th place: document 01's numbers of the event that turn answered, refused or not, with
 -- the task that was asked for.
@@ -25,3 +25,26 @@ module _ (bs : List ℕ) where
       let z = turned bs s b (q .0) (q .1) in
       let six : 6 * suc n ≡ suc (suc (suc (suc (suc (suc (6 * n)))))) = omega arith in
       ap (λ k. take 6 (drop k (eventRecords bs (q ∷ ps) s b))) six ∙ nth-record ps (z .state) (changed b (z .change)) n p r (le-of-suc-le-suc h)
+
+  -- Two calls are one: what is made of the first pairs is where the others begin. So a schedule may be cut anywhere, at every turn too.
+  pub state-cut : (ps qs : List (Task × ℕ)) (s : State) (b : Values) → stateBehind bs (ps ++ qs) s b ≡ stateBehind bs qs (stateBehind bs ps s b) (valuesBehind bs ps s b)
+  unfolding stateBehind valuesBehind
+  state-cut [] qs s b = refl
+  state-cut (p ∷ ps) qs s b = (let r = turned bs s b (p .0) (p .1) in state-cut ps qs (r .state) (changed b (r .change)))
+
+  pub values-cut : (ps qs : List (Task × ℕ)) (s : State) (b : Values) → valuesBehind bs (ps ++ qs) s b ≡ valuesBehind bs qs (stateBehind bs ps s b) (valuesBehind bs ps s b)
+  unfolding stateBehind valuesBehind
+  values-cut [] qs s b = refl
+  values-cut (p ∷ ps) qs s b = (let r = turned bs s b (p .0) (p .1) in values-cut ps qs (r .state) (changed b (r .change)))
+
+  pub records-cut : (ps qs : List (Task × ℕ)) (s : State) (b : Values) → eventRecords bs (ps ++ qs) s b ≡ eventRecords bs ps s b ++ eventRecords bs qs (stateBehind bs ps s b) (valuesBehind bs ps s b)
+  unfolding stateBehind valuesBehind eventRecords
+  records-cut [] qs s b = refl
+  records-cut (p ∷ ps) qs s b =
+      let r = turned bs s b (p .0) (p .1) in
+      ap (λ l. eventRecord (p .0) (numbers (r .event)) ++ l) (records-cut ps qs (r .state) (changed b (r .change)))
+
+  -- The state behind a call is that of the last turn.
+  pub last-state : (ps : List (Task × ℕ)) (p : Task × ℕ) (s : State) (b : Values) → stateBehind bs (ps ++ (p ∷ [])) s b ≡ turned bs (stateBehind bs ps s b) (valuesBehind bs ps s b) (p .0) (p .1) .state
+  unfolding stateBehind
+  last-state ps p s b = state-cut ps (p ∷ []) s b
