@@ -1,5 +1,5 @@
-/* `bench KIND ROUNDS` makes one turn, one start, one image check, one fit or one translation so many times by the library, `bench
-   KIND ROUNDS plain` by the plain C of plain.c. It fails where an answer is not the one that is due. */
+/* `bench KIND ROUNDS` makes one turn, one start, one image check, one fit, one part of a schedule or one translation so many times by
+   the library, `bench KIND ROUNDS plain` by the plain C of plain.c. It fails where an answer is not the one that is due. */
 #include "images.h"
 #include "plain.h"
 #include "texts.h"
@@ -8,6 +8,7 @@ uint32_t bench_check(const uint8_t *image, size_t n);
 uint16_t bench_start(const uint8_t *image, size_t n);
 uint16_t bench_rounds(const uint8_t *image, size_t n, const uint8_t *pairs, size_t pairs_n, uint8_t way, uint8_t task, uint8_t choice, uint32_t rounds);
 uint16_t bench_fit(const uint8_t *image, size_t n, const uint8_t *pairs, size_t pairs_n, uint32_t rounds);
+uint8_t bench_schedule(const uint8_t *image, size_t n, const uint8_t *pairs, size_t pairs_n, uint8_t *records, size_t room);
 
 /* Two images of 1,024 rows and two tasks: a send and then stops, and sends up to two stops. */
 static uint8_t stops[8 * 1024 + 1 + 4 + 8], sends[sizeof stops];
@@ -20,11 +21,14 @@ static void make_long(uint8_t *p, int n) {
 }
 
 /* What is made again and again, from the state that the pairs lead to: a step in place, a step by value, a turn (the ways of
-   bench_rounds), a start, a fit, a check. */
-enum what { STEP, VALUE, TURN, START, FIT, CHECK };
+   bench_rounds), a start, a fit, a check. Or the pairs themselves: in one call of schedule so many times over, or one call for each
+   time. */
+enum what { STEP, VALUE, TURN, START, FIT, CHECK, LONGER, CALLS };
 typedef struct { const char *name; enum what what; const uint8_t *image; size_t n; const uint8_t *pairs; size_t pairs_n; uint8_t task; } kind_t;
 static const uint8_t none[1], one_turn[2] = {0, 0};
 static const uint8_t all_wait[30] = {0, 0, 1, 0, 2, 0, 3, 0, 4, 0, 5, 0, 6, 0, 7, 0, 8, 0, 9, 0, 10, 0, 11, 0, 12, 0, 13, 0, 14, 0};
+static const uint8_t there_and_back[4] = {0, 0, 1, 0};
+static const uint8_t all_wait_and_close[32] = {0, 0, 1, 0, 2, 0, 3, 0, 4, 0, 5, 0, 6, 0, 7, 0, 8, 0, 9, 0, 10, 0, 11, 0, 12, 0, 13, 0, 14, 0, 15, 0};
 static const kind_t kinds[] = {
     {"send", STEP, pass, sizeof pass, none, 0, 0},
     {"receive", STEP, pass, sizeof pass, one_turn, 2, 1},
@@ -46,7 +50,35 @@ static const kind_t kinds[] = {
     {"check-1024-sends", CHECK, sends, sizeof sends, none, 0, 0},
     {"fit-2", FIT, pass, sizeof pass, none, 0, 0},
     {"fit-16", FIT, close15, sizeof close15, all_wait, 30, 0},
+    {"schedule-pair", LONGER, pass_on, sizeof pass_on, there_and_back, 4, 0},
+    {"schedule-select", LONGER, select8_on, sizeof select8_on, there_and_back, 4, 0},
+    {"schedule-waits", CALLS, close15, sizeof close15, all_wait, 30, 0},
+    {"schedule-close", CALLS, close15, sizeof close15, all_wait_and_close, 32, 0},
 };
+
+/* The pairs of a kind so many times over, and room for their records. */
+#define LONGEST 4096
+static uint8_t pairs_made[LONGEST], records_made[3 * LONGEST];
+static size_t make_pairs(const kind_t *k, uint32_t n) {
+    size_t made = 0;
+    for (; n && made + k->pairs_n <= LONGEST; n--) for (size_t i = 0; i < k->pairs_n; i++) pairs_made[made++] = k->pairs[i];
+    return made;
+}
+/* Every turn of a schedule was made, and none refused. */
+static int all_made(size_t pairs_n) {
+    for (size_t i = 0; i < 3 * pairs_n; i += 6) if (records_made[i] == 0 || records_made[i] > 9) return 0;
+    return 1;
+}
+static int library_schedule(const kind_t *k, uint32_t times) {
+    size_t n = make_pairs(k, times);
+    return bench_schedule(k->image, k->n, pairs_made, n, records_made, sizeof records_made) || !all_made(n);
+}
+static int plain_made(const kind_t *k, uint32_t times) {
+    static plain_machine m;
+    size_t n = make_pairs(k, times);
+    if (plain_start(k->image, k->n, &m)) return 1;
+    return plain_schedule(k->image, k->n, &m, pairs_made, n, records_made, sizeof records_made).number || !all_made(n);
+}
 
 static int library_rounds(const kind_t *k, uint32_t n) {
     switch (k->what) {
@@ -56,6 +88,10 @@ static int library_rounds(const kind_t *k, uint32_t n) {
         return 0;
     case START:
         for (; n; n--) if (bench_start(k->image, k->n)) return 1;
+        return 0;
+    case LONGER: return library_schedule(k, n);
+    case CALLS:
+        for (; n; n--) if (library_schedule(k, 1)) return 1;
         return 0;
     default: return bench_rounds(k->image, k->n, k->pairs, k->pairs_n, k->what, k->task, 0, n) != k->pairs_n / 2 + 1;
     }
@@ -80,6 +116,11 @@ static int plain_round(const kind_t *k, const plain_machine *from) {
 }
 static int plain_rounds(const kind_t *k, uint32_t n) {
     static plain_machine from;
+    if (k->what == LONGER) return plain_made(k, n);
+    if (k->what == CALLS) {
+        for (; n; n--) if (plain_made(k, 1)) return 1;
+        return 0;
+    }
     if (plain_start(k->image, k->n, &from)) return 1;
     for (size_t i = 0; i + 1 < k->pairs_n; i += 2) plain_turn(k->image, k->n, &from, k->pairs[i], k->pairs[i + 1]);
     for (; n; n--) if (plain_round(k, &from)) return 1;

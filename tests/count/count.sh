@@ -1,5 +1,6 @@
 #!/bin/sh
-# Exact x86-64 instructions of one turn, one start, one image check, one fit and one translation, by the library and by plain C: a run of N
+# Exact x86-64 instructions of one turn, one start, one image check, one fit, one turn of a schedule and one translation, by the library and
+# by plain C: a run of N
 # rounds and one of 2N, and their difference divided by N, so that everything but the rounds falls out. A benchmark and no test.
 #
 # On x86-64 the program is an ordinary one with the C library's memcpy, and valgrind counts; where there is none it is installed.
@@ -13,9 +14,10 @@ set -eu
 cd "$(dirname "$0")/../.."
 . bin/runner.sh
 . tests/count/archive.sh
-# The rounds of the fit are in an archive of their own, so that in each the fit has one caller and is laid into it, as in the product.
-for crate in bench bench_fit; do archive $crate; done
-archives="$out/libbench.a $out/libbench_fit.a"
+# The rounds of the fit and the schedule are in archives of their own, so that in each the fit and the step have one caller and are laid
+# into it, as in the product.
+for crate in bench bench_fit bench_schedule; do archive $crate; done
+archives="$out/libbench.a $out/libbench_fit.a $out/libbench_schedule.a"
 way=${WAY:-native}
 if [ "$(uname -m)" != x86_64 ]; then
     way=emulated
@@ -90,13 +92,15 @@ count() {
         $way "$kind" "$k" "$@" >$out/"$k" || { echo "count: bench $kind failed" >&2; exit 1; }
     done
     sort -t "$tab" -k 2,2nr $out/$((2 * n)) >$out/twice
-    loops='main|library_rounds|plain_rounds?|again|translations|bench::.*'
+    most=60
+    loops='main|library_rounds|plain_rounds?|again|translations|make_pairs|all_made|library_schedule|plain_made|bench::.*'
     case $kind in
     *-by-value) ;;
+    schedule-*) most=1000 ;; # the pairs are laid out and the records looked at in C
     send* | receive | select | close) loops="$loops|bench_rounds|mem(cpy|move|set)" ;;
     *) loops="$loops|bench_rounds" ;;
     esac
-    awk -F '\t' -v n="$n" -v who="$who" -v loops="^($loops)\$" -v total="$out/total" '
+    awk -F '\t' -v n="$n" -v who="$who" -v loops="^($loops)\$" -v most="$most" -v total="$out/total" '
         FNR == NR { once[$1] = $2; next }
         $2 <= once[$1] { next }
         { v = ($2 - once[$1]) / n }
@@ -106,23 +110,23 @@ count() {
         END {
             printf "    %-40s %12.1f\n", who, t
             for (name in around) { a += around[name]; printf "        (around it: %s %.1f)\n", name, around[name] }
-            if (who == "library" && a > 60) print "count: the loop itself takes " a " instructions, so the count is not to be trusted" >"/dev/stderr"
+            if (who == "library" && a > most) print "count: the loop itself takes " a " instructions, so the count is not to be trusted" >"/dev/stderr"
             printf "%.1f %.1f\n", t, m >total
         }' $out/"$n" $out/twice
 }
-kind() { # kind KIND ROUNDS NAME
+kind() { # kind KIND ROUNDS NAME [TURNS]: divided by the turns of a round
     case " $kinds " in "  " | *" $1 "*) ;; *) return 0 ;; esac
     echo "$3"
     count "$1" "$2" library
     library_total=$(cat $out/total)
     count "$1" "$2" 'plain C' plain
-    echo "$library_total $(cat $out/total)" | awk -v name="$3" '
+    echo "$library_total $(cat $out/total)" | awk -v name="$3" -v turns="${4:-1}" '
         function commas(v, s) {
             s = sprintf("%.0f", v)
             while (match(s, /[0-9][0-9][0-9][0-9]($|,)/)) s = substr(s, 1, RSTART) "," substr(s, RSTART + 1)
             return s
         }
-        { printf "| %s | %s | %s | %s | %.2f |\n", name, commas($1), commas($2), commas($3), $1 / $3 }' >>$out/table
+        { printf "| %s | %s | %s | %s | %.2f |\n", name, commas($1 / turns), commas($2 / turns), commas($3 / turns), $1 / $3 }' >>$out/table
 }
 kinds="$*" rounds=${N:-10} tab=$(printf '\t')
 "build_$way"
@@ -141,6 +145,10 @@ kind start-4 "$rounds" 'start of an image of 4 rows'
 kind turn-4 "$rounds" 'send as a whole turn, image of 4 rows'
 kind turn-32 "$rounds" 'close that wakes 15 as a whole turn, image of 32 rows'
 kind turn-1024 1 'send as a whole turn, image of 1,024 rows'
+kind schedule-pair 100 'schedule of sends and receives, a turn' 2
+kind schedule-select 100 'schedule of selects of 8, the last one ready, and receives, a turn' 2
+kind schedule-waits "$rounds" 'start and schedule of 15 waits, image of 32 rows'
+kind schedule-close "$rounds" 'the same and a close that wakes all 15'
 kind check-4 "$rounds" 'check of an image of 4 rows'
 kind check-64 "$rounds" 'check of an image of 64 rows of every kind'
 kind check-1024 1 'check of an image of 1,024 rows, stops'

@@ -6,6 +6,12 @@ static const uint8_t pass[45] = {
     3, 0, 0, 0, 3, 0, 0, 0, 12, 0, 0, 0, 0, 0, 0, 0,
     1, 0, 0, 2, 0, 4, 0, 1, 2, 37, 0, 90, 1,
 };
+/* the same rows, but the send and the receive each lead back to themselves: a pair of turns that can be made for ever */
+static const uint8_t pass_on[45] = {
+    1, 0, 7, 0, 0, 0, 0, 0, 12, 0, 0, 0, 0, 0, 0, 0,
+    3, 0, 0, 0, 2, 0, 0, 0, 12, 0, 0, 0, 0, 0, 0, 0,
+    1, 0, 0, 2, 0, 4, 0, 1, 2, 37, 0, 90, 1,
+};
 /* chan 0 chan 1 task select case recv 0 case recv 0 case recv 0 case recv 0 case recv 0 case recv 0 case recv 0 case send 1 5 end end */
 static const uint8_t select8[92] = {
     8, 8, 0, 0, 0, 0, 0, 0, 11, 0, 0, 0, 9, 0, 0, 0,
@@ -14,6 +20,16 @@ static const uint8_t select8[92] = {
     11, 0, 0, 0, 9, 0, 0, 0, 11, 0, 0, 0, 9, 0, 0, 0,
     9, 1, 5, 0, 9, 0, 0, 0, 12, 0, 0, 0, 0, 0, 0, 0,
     0, 1, 0, 0, 10, 0, 2, 1, 84, 0, 90, 1,
+};
+/* the same select, whose cases lead back to it, and a second task that takes what it sends, for ever */
+static const uint8_t select8_on[110] = {
+    8, 8, 0, 0, 0, 0, 0, 0, 11, 0, 0, 0, 0, 0, 0, 0,
+    11, 0, 0, 0, 0, 0, 0, 0, 11, 0, 0, 0, 0, 0, 0, 0,
+    11, 0, 0, 0, 0, 0, 0, 0, 11, 0, 0, 0, 0, 0, 0, 0,
+    11, 0, 0, 0, 0, 0, 0, 0, 11, 0, 0, 0, 0, 0, 0, 0,
+    9, 1, 5, 0, 0, 0, 0, 0, 12, 0, 0, 0, 0, 0, 0, 0,
+    3, 1, 0, 0, 10, 0, 0, 0, 12, 0, 0, 0, 0, 0, 0, 0,
+    0, 1, 0, 0, 10, 0, 12, 0, 2, 2, 102, 0, 90, 1,
 };
 /* chan 0, fifteen times `task recv 0 end`, `task close 0 end` */
 static const uint8_t close15[297] = {

@@ -496,3 +496,21 @@ plain_event plain_turn(const uint8_t *image, size_t n, plain_machine *m, unsigne
     if (!fits(m, &p)) return event(17, 255, 0, 255);
     return plain_step(p.body, p.rows, m, t, choice);
 }
+plain_refusal plain_schedule(const uint8_t *image, size_t n, plain_machine *m, const uint8_t *pairs, size_t pairs_n, uint8_t *records, size_t room) {
+    parts_t p;
+    size_t place;
+    uint8_t bad = check_parts(image, n, &p, &place);
+    if (bad) return (plain_refusal){bad, place};
+    if (!fits(m, &p)) return (plain_refusal){17, 0};
+    if (pairs_n % 2) return (plain_refusal){30, 0};
+    if (room < 3 * pairs_n) return (plain_refusal){31, 3 * pairs_n};
+    for (const uint8_t *end = pairs + pairs_n; pairs < end; pairs += 2, records += 6) {
+        plain_event e = plain_step(p.body, p.rows, m, pairs[0], pairs[1]);
+        records[0] = e.number;
+        records[1] = pairs[0];
+        records[2] = e.channel;
+        put2(records + 3, e.value);
+        records[5] = e.partner;
+    }
+    return (plain_refusal){0, 3 * pairs_n};
+}

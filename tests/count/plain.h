@@ -16,4 +16,6 @@ int plain_fits(const uint8_t *body, unsigned rows, unsigned channels, unsigned t
 uint8_t plain_start(const uint8_t *image, size_t n, plain_machine *m);
 plain_event plain_step(const uint8_t *body, unsigned rows, plain_machine *m, unsigned t, unsigned choice);
 plain_event plain_turn(const uint8_t *image, size_t n, plain_machine *m, unsigned t, unsigned choice);
+/* A whole schedule: number 0 and the bytes of records written, or a refusal and its place. */
+plain_refusal plain_schedule(const uint8_t *image, size_t n, plain_machine *m, const uint8_t *pairs, size_t pairs_n, uint8_t *records, size_t room);
 #endif

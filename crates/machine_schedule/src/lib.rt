@@ -102,10 +102,10 @@ fn run_in(
 fn outcome_of(pairs: usize, room: usize) -> Outcome
     ensures { λ r. ⌜ r ≡ outcomeOf pairs room ⌝ }
 {
+    let needed = length_needed(pairs);
     if pairs % 2 != 0 {
         return Outcome::Refused(ODD_PAIRS, 0);
     }
-    let needed = length_needed(pairs);
     if room < needed {
         return Outcome::Refused(RECORDS_SHORT, needed);
     }
