@@ -1,5 +1,6 @@
 -- Every kind that this crate speaks of, its own and those of the crates below.
 pub use Rattle.meaning.specs.declared.Task.{Task}
+pub use Rattle.meaning.specs.declared.Event.{Event}
 pub use Rattle.image_rows.specs.declared.Counts.{Counts}
 pub use Rattle.image_check.specs.declared.Checked.{Checked}
 pub use Rattle.image_check.specs.declared.Checked.the-variants.{Good}

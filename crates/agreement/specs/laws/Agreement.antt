@@ -1,13 +1,13 @@
 -- Demand 3, over the definitions that the contracts of `translate`, `check`, `start`, `turn` and `stored` cite: for any job text
 -- that the translator accepts, its image passes the check, and from a fresh start, under every list of task numbers and choices,
 -- image and text give the same event at every turn and agree after it on all that is seen.
-use mathlib.Core.Path.{_≡_, sym, ap, _∙_}
+use mathlib.Core.Path.{_≡_, refl, sym, ap, _∙_}
 use mathlib.Core.Bool.{true}
-use mathlib.Core.List.{List, _++_, map}
+use mathlib.Core.List.{List, [], _∷_, _++_, map}
 use Prim.Native.Nat.{ℕ}
 use lib.ListN.{length, take}
 use Rattle.agreement.specs.Kinds.{Task, Good, Image}
-use Rattle.meaning.specs.Machine.{runs, seenTurn}
+use Rattle.meaning.specs.Machine.{Turned, runs, seenTurn}
 use Rattle.meaning.specs.Text.{Job, textLook, textStart}
 use Rattle.meaning.specs.Bytes.{bodyOf, jobImage}
 use Rattle.image_rows.specs.Rows.{countsOf}
@@ -21,6 +21,13 @@ use Rattle.machine_fit.specs.Fitted.{fittingIn}
 use Rattle.machine.specs.Public.{started, freshValues}
 use Rattle.machine.specs.Runs.{turns, seenTurns}
 use Rattle.machine.specs.laws.Reached.{reached-fits, reached-means}
+use Rattle.machine_schedule.specs.Schedule.{eventRecords}
+use Rattle.machine_schedule.specs.laws.Single.{recordsTold, records-told}
+
+-- The events of turns, as they are seen.
+events-of : {P : Type 0} (rs : List (Turned P)) → map (λ r. r .event) rs ≡ map (λ p. p .0) (map seenTurn rs)
+events-of [] = refl
+events-of (r ∷ rs) = ap (λ l. r .event ∷ l) (events-of rs)
 
 -- Of a text that is read as a job, with its image behind any bytes.
 module _ (text : List ℕ) (job : Job) (end rows : ℕ) (accepted : reading text ≡ got job end rows) (pre : List ℕ) where
@@ -36,6 +43,14 @@ module _ (text : List ℕ) (job : Job) (end rows : ℕ) (accepted : reading text
   -- machine's own turns, each with the state and stored values of the one before, and the text's meaning.
   pub text-and-image-agree : (schedule : List (Task × ℕ)) → map seenTurn (runs textLook schedule (textStart job)) ≡ map seenTurn (seenTurns slice schedule (started slice .state) freshValues)
   text-and-image-agree schedule = accepted-same text job end rows accepted pre schedule ∙ ap (map seenTurn) (sym (reached-means slice image-passes schedule))
+
+  -- The same through the call that makes a whole schedule (document 02, E1): its records tell the text's events.
+  pub schedule-agrees : (schedule : List (Task × ℕ)) → eventRecords slice schedule (started slice .state) freshValues ≡ recordsTold schedule (map (λ r. r .event) (runs textLook schedule (textStart job)))
+  schedule-agrees schedule =
+      let text's = runs textLook schedule (textStart job) in
+      let machine's = seenTurns slice schedule (started slice .state) freshValues in
+      records-told slice schedule (started slice .state) freshValues
+      ∙ ap (recordsTold schedule) (events-of machine's ∙ ap (map (λ p. p .0)) (sym (text-and-image-agree schedule)) ∙ sym (events-of text's))
 
   -- No turn of such a run is refused by 17.
   pub never-unfit : (schedule : List (Task × ℕ)) → All (λ r. fittingIn (bodyOf slice) (countsOf slice) (r .state .words) (r .state .cells) ≡ true) (turns slice schedule (started slice .state) freshValues)

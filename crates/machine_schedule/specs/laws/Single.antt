@@ -1,17 +1,23 @@
 -- A caller of single turns would have seen the same: the turns that `turns` lists (machine/specs/Runs), one record each.
 use mathlib.Core.Path.{_≡_, refl, ap, _∙_}
-use mathlib.Core.List.{List, [], _∷_, _++_}
+use mathlib.Core.List.{List, [], _∷_, _++_, map}
 use Prim.Native.Nat.{ℕ, zero, suc, _+_, _*_, _<_}
 use native.Mathlib.Omega.{arith}
 use native.Mathlib.Nat.{le-of-suc-le-suc, not-suc-le-zero}
 use lib.ListN.{length, getD, take, drop}
-use Rattle.machine_schedule.specs.Kinds.{Task, State, Turned}
+use Rattle.machine_schedule.specs.Kinds.{Task, Event, State, Turned}
 use Rattle.meaning.specs.Events.{numbers}
 use Rattle.events.specs.Record.{eventRecord}
 use Rattle.machine_records.specs.Values.{Values, changed}
 use Rattle.machine.specs.Public.{turned}
-use Rattle.machine.specs.Runs.{turns}
+use Rattle.machine.specs.Runs.{turns, seenTurns}
 use Rattle.machine_schedule.specs.Schedule.{stateBehind, valuesBehind, eventRecords}
+
+-- The records of these turns of these tasks, one behind the other.
+unfoldable pub recordsTold : List (Task × ℕ) → List Event → List ℕ
+recordsTold [] es = []
+recordsTold (p ∷ ps) [] = []
+recordsTold (p ∷ ps) (e ∷ es) = eventRecord (p .0) (numbers e) ++ recordsTold ps es
 
 -- The record of the n-th turn stands at the n-th place: document 01's numbers of the event that turn answered, refused or not, with
 -- the task that was asked for.
@@ -48,3 +54,11 @@ module _ (bs : List ℕ) where
   pub last-state : (ps : List (Task × ℕ)) (p : Task × ℕ) (s : State) (b : Values) → stateBehind bs (ps ++ (p ∷ [])) s b ≡ turned bs (stateBehind bs ps s b) (valuesBehind bs ps s b) (p .0) (p .1) .state
   unfolding stateBehind
   last-state ps p s b = state-cut ps (p ∷ []) s b
+
+  -- All records together: the events of the single turns, each with its task.
+  pub records-told : (ps : List (Task × ℕ)) (s : State) (b : Values) → eventRecords bs ps s b ≡ recordsTold ps (map (λ r. r .event) (seenTurns bs ps s b))
+  unfolding eventRecords recordsTold seenTurns
+  records-told [] s b = refl
+  records-told (p ∷ ps) s b =
+      let r = turned bs s b (p .0) (p .1) in
+      ap (λ l. eventRecord (p .0) (numbers (r .event)) ++ l) (records-told ps (r .state) (changed b (r .change)))
