@@ -19,9 +19,9 @@ use meaning::sizes::DEPTH;
 use meaning::sizes::TASKS;
 
 // Of `words`: each task's row, then each task's register, then the stamp.
-const REGISTER: usize = TASKS as usize;
+pub const REGISTER: usize = TASKS as usize;
 
-const STAMP: usize = REGISTER + (TASKS as usize);
+pub const STAMP: usize = REGISTER + (TASKS as usize);
 
 pub const STATE_WORDS: usize = STAMP + 1;
 
@@ -32,19 +32,19 @@ pub const ORDER: usize = OK + (TASKS as usize);
 
 pub const CLOSED: usize = ORDER + (TASKS as usize);
 
-const LENGTH: usize = CLOSED + (CHANS as usize);
+pub const LENGTH: usize = CLOSED + (CHANS as usize);
 
-const LAP: usize = LENGTH + (CHANS as usize);
+pub const LAP: usize = LENGTH + (CHANS as usize);
 
 pub const WAITING: usize = LAP + (DEPTH as usize) * (TASKS as usize);
 
-const FAULT: usize = WAITING + 1;
+pub const FAULT: usize = WAITING + 1;
 
-const NAMED: usize = FAULT + 1;
+pub const NAMED: usize = FAULT + 1;
 
-const TASK_COUNT: usize = NAMED + 1;
+pub const TASK_COUNT: usize = NAMED + 1;
 
-const CHAN_COUNT: usize = TASK_COUNT + 1;
+pub const CHAN_COUNT: usize = TASK_COUNT + 1;
 
 pub const STATE_CELLS: usize = CHAN_COUNT + 1;
 

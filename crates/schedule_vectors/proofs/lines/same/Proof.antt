@@ -1,0 +1,28 @@
+-- The measure is the number of bytes that are left. Nothing has to hold from one to the next.
+use Prim.Native.Nat.{_-_}
+use lib.ListN.{length}
+use borrow.Author.Needs.{needs}
+use Rattle.schedule_vectors.proofs.lines.same.Statement.{statement}
+use Rattle.schedule_vectors.proofs.lines.same.Tie as tie
+
+abbrev Inv-loop : tie.InvT-loop
+Inv-loop a b i₀ i = Unit {0}
+
+abbrev μ-loop : tie.MeasureT-loop
+μ-loop a b i₀ i = length a - i
+
+pub same-spec : {M : Type 1} → statement M
+same-spec =
+    tie.close
+    (tie.spec
+    Inv-loop
+    μ-loop
+    (λ c. search needs)
+    (λ c. tt)
+    (λ c. search needs)
+    (λ c κs. search needs)
+    (λ c. search needs)
+    (λ c. search needs)
+    (λ c. search needs)
+    (λ c. tt)
+    (λ c. search needs))

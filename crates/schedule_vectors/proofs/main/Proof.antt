@@ -1,0 +1,31 @@
+-- The measure is the number of arguments that are left. Nothing has to hold from one to the next.
+use Prim.Native.Nat.{_-_}
+use borrow.Author.Needs.{needs}
+use Rattle.schedule_vectors.proofs.main.Statement.{statement}
+use Rattle.schedule_vectors.proofs.main.Tie as tie
+
+abbrev Inv-loop : tie.InvT-loop
+Inv-loop count tally₀ i₀ tally i = Unit {0}
+
+abbrev μ-loop : tie.MeasureT-loop
+μ-loop count tally₀ i₀ tally i = count - i
+
+pub main-spec : {M : Type 1} → statement M
+main-spec =
+    tie.close
+    (tie.spec
+    Inv-loop
+    μ-loop
+    (λ c κs. search needs)
+    (λ c. tt)
+    (λ c κs. search needs)
+    (λ c. search needs)
+    (λ c κs. search needs)
+    (λ c. search needs)
+    (λ c κs. search needs)
+    (λ c κs. search needs)
+    (λ c. search needs)
+    (λ c. search needs)
+    (λ c. tt)
+    (λ c κs. search needs)
+    (λ c. search needs))
