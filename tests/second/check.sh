@@ -10,8 +10,8 @@ dir=$1
 shift
 if [ $# -eq 0 ]; then
     here=$(dirname "$0")
-    cargo build --quiet --release --manifest-path "$here/Cargo.toml" || exit 2
-    set -- "${CARGO_TARGET_DIR:-$here/target}/release/second" list
+    . "$here/build.sh"
+    set -- "$second" list
 fi
 printed=$(mktemp) || exit 2
 trap 'rm -f "$printed"' EXIT

@@ -10,10 +10,7 @@ set -u
 seconds=$1
 shift
 here=$(dirname "$0")
-PATH=$PATH${HOME:+:$HOME/.cargo/bin}
-command -v cargo >/dev/null || apt-get install -y cargo-web rustc-web >&2 || exit 2
-cargo build --quiet --release --manifest-path "$here/Cargo.toml" || exit 2
-second=${CARGO_TARGET_DIR:-$here/target}/release/second
+. "$here/build.sh"
 inputs=$(mktemp -d) || exit 2
 trap 'rm -rf "$inputs"' EXIT
 began=$(date +%s)

@@ -1,13 +1,14 @@
 //! Inputs of the listing program, made from a seed: the same seed and index
 //! give the same bytes everywhere. About half are valid jobs with a schedule;
 //! the others are near-valid (`near`), at a limit (`limits`) or damaged
-//! (`damage`).
+//! (`damage`). `schedules` makes calls of a whole schedule.
 
 mod damage;
 mod jobs;
 mod limits;
 mod near;
 mod random;
+pub mod schedules;
 mod spelling;
 
 pub use random::Random;

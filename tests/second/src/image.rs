@@ -8,7 +8,7 @@ mod layout;
 
 pub use layout::Layout;
 
-use crate::job::Channel;
+use crate::job::{Channel, Job};
 use crate::numbers::{ChannelNumber, Refusal, RowNumber, TaskNumber};
 
 pub const SEND: u8 = 1;
@@ -137,6 +137,16 @@ impl<'s> Image<'s> {
         self.row(RowNumber(row.0 + u16::from(steps)))
     }
 
+    /// How many rows there are.
+    pub fn rows(&self) -> usize {
+        self.counts.rows
+    }
+
+    /// Whether `target` is a row, and no case row.
+    pub fn is_target(&self, target: RowNumber) -> bool {
+        target.index() < self.counts.rows && !self.row(target).is_case()
+    }
+
     pub fn channels(&self) -> impl Iterator<Item = ChannelNumber> {
         (0..self.counts.channels as u8).map(ChannelNumber)
     }
@@ -153,4 +163,14 @@ impl<'s> Image<'s> {
         let at = ROW_BYTES * self.counts.rows + self.counts.channels + 2 * task.index();
         RowNumber(low_first(&self.bytes[at..]))
     }
+}
+
+/// The image of a job.
+pub fn image_of(job: &Job) -> Vec<u8> {
+    let mut buffer = vec![0; IMAGE_LIMIT];
+    let length = Layout::of(job)
+        .write(&mut buffer)
+        .expect("an image fits its limit");
+    buffer.truncate(length);
+    buffer
 }

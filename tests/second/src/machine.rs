@@ -4,7 +4,7 @@
 //! `Twin` makes every turn on both and panics where they differ.
 
 mod nested;
-mod rows;
+pub mod rows;
 
 use crate::image::{Image, Layout};
 use crate::job::{Channel, Job};
@@ -41,6 +41,19 @@ pub enum Fault {
     CloseOfNil = 2,
     CloseOfClosed = 3,
     CloseOverSenders = 4,
+}
+
+impl Fault {
+    /// The fault of a number; 0 is none.
+    pub fn numbered(number: u8) -> Option<Fault> {
+        let faults = [
+            Fault::SendOnClosed,
+            Fault::CloseOfNil,
+            Fault::CloseOfClosed,
+            Fault::CloseOverSenders,
+        ];
+        faults.into_iter().find(|fault| *fault as u8 == number)
+    }
 }
 
 /// The halt record: the fault and the task named, the mover.

@@ -1,13 +1,17 @@
 //! A second listing program, written from document 01 alone, to be compared
 //! with another: it lists one input, generates inputs with their listings from
-//! a seed, and tallies what generated listings hold.
+//! a seed, and tallies what generated listings hold. It also generates calls of
+//! a whole schedule (document 02, E1) with what each leaves.
 
+mod block;
 mod generate;
 mod image;
 mod job;
 mod listing;
 mod machine;
 mod numbers;
+mod schedule;
+mod state;
 mod tally;
 mod text;
 
@@ -21,7 +25,11 @@ use tally::Tally;
 
 const USAGE: &str = "usage: second list < INPUT
        second generate SEED COUNT DIR
-       second tally DIR";
+       second tally DIR
+       second schedules SEED COUNT FILE";
+
+/// No file of blocks is longer.
+const FILE_LIMIT: usize = 60_000;
 
 type Done = Result<(), Box<dyn Error>>;
 
@@ -32,6 +40,7 @@ fn main() -> ExitCode {
         ["list"] => list(),
         ["generate", seed, count, dir] => generate(seed, count, Path::new(dir)),
         ["tally", dir] => tally(Path::new(dir)),
+        ["schedules", seed, count, file] => schedules(seed, count, Path::new(file)),
         _ => Err(USAGE.into()),
     };
     match done {
@@ -75,5 +84,23 @@ fn tally(dir: &Path) -> Done {
         }
     }
     print!("{tally}");
+    Ok(())
+}
+
+/// Writes blocks of calls, up to a count or until the next would make the file
+/// too long.
+fn schedules(seed: &str, count: &str, file: &Path) -> Done {
+    let (seed, count): (u64, u64) = (seed.parse()?, count.parse()?);
+    let mut blocks = String::new();
+    for index in 0..count {
+        let name = format!("seed-{seed}-{index}");
+        let block = block::block(&name, &generate::schedules::call(seed, index));
+        if blocks.len() + block.len() >= FILE_LIMIT {
+            break;
+        }
+        blocks += &block;
+        blocks.push('\n');
+    }
+    fs::write(file, blocks)?;
     Ok(())
 }

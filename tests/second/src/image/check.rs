@@ -53,7 +53,7 @@ pub fn contents(image: &Image) -> Result<(), Refusal> {
     if let Some(bad) = image.channels().find(over) {
         return refuse(27, bad.index());
     }
-    let astray = |task: &_| !is_target(image, image.first_row(*task));
+    let astray = |task: &_| !image.is_target(image.first_row(*task));
     if let Some(bad) = image.tasks().find(astray) {
         return refuse(28, bad.index());
     }
@@ -104,15 +104,10 @@ fn targets_hold(image: &Image, row: Row) -> bool {
 
 fn target_holds(image: &Image, used: bool, target: RowNumber) -> bool {
     if used {
-        is_target(image, target)
+        image.is_target(target)
     } else {
         target == RowNumber(0)
     }
-}
-
-/// Whether `target` is a row, and no case row.
-fn is_target(image: &Image, target: RowNumber) -> bool {
-    target.index() < image.counts.rows && !image.row(target).is_case()
 }
 
 /// How many case rows, up to `limit`, follow `select` at once.
@@ -136,17 +131,13 @@ fn is_case_of_a_select(image: &Image, number: RowNumber) -> bool {
 
 #[cfg(test)]
 mod tests {
-    use super::super::{Layout, IMAGE_LIMIT};
+    use super::super::image_of;
     use super::*;
     use crate::generate::Random;
     use crate::text;
 
     fn image(text: &str) -> Vec<u8> {
-        let job = text::read(text.as_bytes()).unwrap();
-        let mut buffer = vec![0; IMAGE_LIMIT];
-        let length = Layout::of(&job).write(&mut buffer).unwrap();
-        buffer.truncate(length);
-        buffer
+        image_of(&text::read(text.as_bytes()).unwrap())
     }
 
     fn refusal(slice: &[u8]) -> Option<(u8, usize)> {

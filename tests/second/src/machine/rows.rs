@@ -10,6 +10,7 @@ use crate::image::{
 };
 use crate::job::Channel;
 use crate::numbers::{ChannelNumber, RowNumber, TaskNumber};
+use crate::state::{self, State};
 
 pub struct Machine<'i> {
     image: &'i Image<'i>,
@@ -69,6 +70,53 @@ impl<'i> Machine<'i> {
             order: Vec::new(),
             halt: None,
             stamp: 0,
+        }
+    }
+
+    /// The machine that a state stands for, which fits the image.
+    pub fn resume(image: &'i Image<'i>, state: &State) -> Machine<'i> {
+        let mut machine = Machine::start(image);
+        for (task, stored) in machine.tasks.iter_mut().zip(&state.tasks) {
+            task.row = RowNumber(stored.row);
+            task.laps = stored.laps;
+            task.register = stored.register;
+            task.ok = stored.ok;
+            task.ended = stored.status == Status::Ended;
+        }
+        for (channel, stored) in machine.channels.iter_mut().zip(&state.channels) {
+            channel.closed = stored.closed;
+            channel.buffer = stored.values.iter().copied().collect();
+        }
+        let mover = TaskNumber(state.named);
+        machine.order = state.order.iter().copied().map(TaskNumber).collect();
+        machine.halt = Fault::numbered(state.fault).map(|fault| Halt { fault, mover });
+        machine.stamp = state.stamp;
+        machine
+    }
+
+    /// The state as it is stored.
+    pub fn state(&self) -> State {
+        let task = |number: TaskNumber| {
+            let task = &self.tasks[number.index()];
+            state::TaskState {
+                status: self.status(number),
+                ok: task.ok,
+                register: task.register,
+                row: task.row.0,
+                laps: task.laps,
+            }
+        };
+        let channel = |channel: &ChannelState| state::ChannelState {
+            closed: channel.closed,
+            values: channel.buffer.iter().copied().collect(),
+        };
+        State {
+            fault: self.halt.map_or(0, |halt| halt.fault as u8),
+            named: self.halt.map_or(0, |halt| halt.mover.0),
+            stamp: self.stamp,
+            order: self.order.iter().map(|task| task.0).collect(),
+            tasks: self.image.tasks().map(task).collect(),
+            channels: self.channels.iter().map(channel).collect(),
         }
     }
 
