@@ -28,8 +28,8 @@ RT_CUT=0
 export RT_JOBS RT_CUT
 
 crates=$(sed 's/#.*//; s/:.*//' crates.txt)
-# Every other crate that has definitions; a program or a bench has none.
-libraries=$(for c in $crates; do [ -d "crates/$c/specs" ] && [ -f "crates/$c/src/lib.rt" ] && echo "$c"; done)
+# Every library; a program has no definitions.
+libraries=$(for c in $crates; do [ -f "crates/$c/src/lib.rt" ] && echo "$c"; done)
 
 deps_of() { sed 's/#.*//' "$root/crates.txt" | sed -n "s/^ *$1 *: *//p"; }
 

@@ -2,9 +2,15 @@
 use mathlib.Core.Path.{_≡_, refl}
 use mathlib.Core.List.{List, [], _∷_, map}
 use Prim.Native.Nat.{ℕ}
-use Rattle.machine_schedule.specs.Kinds.{Task, Outcome}
+use lib.ListN.{replicate}
+use Rattle.machine_schedule.specs.Kinds.{Counts, Good, State, Outcome}
+use Rattle.image_check.specs.declared.Checked.the-variants as check
 use Rattle.meaning.specs.Image.{taskNo}
-use Rattle.machine_schedule.specs.Schedule.{pairsOf, outcomeOf}
+use Rattle.meaning.specs.Bytes.{tabulate}
+use Rattle.machine_records.specs.Fitting.{every, fitting}
+use Rattle.machine_store.specs.Store.{recordsIn}
+use Rattle.machine_fit.specs.Fitted.{plainly, fittingIn}
+use Rattle.machine_schedule.specs.Schedule.{pairsOf, outcomeOf, outcomeAfter}
 
 calls : List (ℕ × ℕ × Outcome)
 calls =
@@ -32,3 +38,17 @@ answers-hold = refl
 pairs-hold : pairsOf (0 ∷ 7 ∷ 15 ∷ 255 ∷ []) ≡ (taskNo 0, 7) ∷ (taskNo 15, 255) ∷ []
 unfolding pairsOf
 pairs-hold = refl
+
+-- The image's own number with its place comes first, then 17, ahead of 30: a state of no tasks and an image of one.
+counts : Counts
+counts = record { rows = 1; channels = 0; tasks = 1; back = 10 }
+
+none : State
+none = record { words = replicate 33 0; cells = replicate 181 0 }
+
+refused-first : outcomeAfter [] counts none 3 0 (check.Refused 26 7) ≡ Outcome.Refused 26 7
+refused-first = refl
+
+unfit-next : outcomeAfter [] counts none 3 0 Good ≡ Outcome.Refused 17 0
+unfolding counts none fittingIn plainly every fitting recordsIn tabulate
+unfit-next = refl
