@@ -1,11 +1,11 @@
 use mathlib.Core.Path.{refl}
 use Rattle.machine_store.specs.laws.Store.{made-then, made-turn}
-use Rattle.machine_moves.specs.Kinds.{Faulted, Keep}
+use Rattle.machine_alone.specs.Kinds.{Faulted, Keep}
 use borrow.Author.Needs.{needs}
-use Rattle.machine_moves.proofs.fail.Statement.{statement}
-use Rattle.machine_moves.proofs.fail.Tie as tie
-use Rattle.machine_moves.proofs.fail.Reads as reads
-use Rattle.machine_moves.proofs.fail.Lts as lts
+use Rattle.machine_alone.proofs.fail.Statement.{statement}
+use Rattle.machine_alone.proofs.fail.Tie as tie
+use Rattle.machine_alone.proofs.fail.Reads as reads
+use Rattle.machine_alone.proofs.fail.Lts as lts
 use Rattle.machine_store.proofs.halt.Reads as halt-reads
 use Rattle.machine_store.proofs.tick.Reads as tick-reads
 

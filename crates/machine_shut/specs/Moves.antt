@@ -2,7 +2,7 @@
 use mathlib.Core.Path.{_≡_}
 use mathlib.Core.List.{List}
 use Prim.Native.Nat.{ℕ}
-use Rattle.machine_moves.specs.Kinds.{Task, Chan, Receiving}
+use Rattle.machine_shut.specs.Kinds.{Task, Chan, Receiving}
 use Rattle.machine_records.specs.Records.{Records, taskIn}
 use Rattle.machine_records.specs.Waiters.{countWaiters}
 use Rattle.machine_records.specs.Plans.{wokenAll}

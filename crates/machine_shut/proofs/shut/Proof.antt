@@ -6,14 +6,14 @@ use Rattle.machine_records.specs.Waiters.{countWaiters}
 use Rattle.machine_records.specs.Plans.{wokenAll, applied}
 use Rattle.machine_store.specs.Store.{recordsIn}
 use Rattle.machine_store.specs.laws.Store.{made-then, made-as, made-turn}
-use Rattle.machine_moves.specs.laws.Moves.{began-here}
-use Rattle.machine_moves.specs.Kinds.{ChanState, Closed, Keep, Receiving}
+use Rattle.machine_shut.specs.laws.Moves.{began-here}
+use Rattle.machine_shut.specs.Kinds.{ChanState, Closed, Keep, Receiving}
 use borrow.Author.Needs.{needs}
-use Rattle.machine_moves.proofs.shut.Statement.{statement}
-use Rattle.machine_moves.proofs.shut.Tie as tie
-use Rattle.machine_moves.proofs.shut.Reads as reads
-use Rattle.machine_moves.proofs.shut.Lts as lts
-use Rattle.machine_moves.proofs.wake_all.Reads as wake-all-reads
+use Rattle.machine_shut.proofs.shut.Statement.{statement}
+use Rattle.machine_shut.proofs.shut.Tie as tie
+use Rattle.machine_shut.proofs.shut.Reads as reads
+use Rattle.machine_shut.proofs.shut.Lts as lts
+use Rattle.machine_shut.proofs.wake_all.Reads as wake-all-reads
 use Rattle.machine_store.proofs.chan_at.Reads as chan-at-reads
 use Rattle.machine_store.proofs.put_chan.Reads as put-chan-reads
 use Rattle.machine_store.proofs.task_went.Reads as task-went-reads

@@ -9,7 +9,7 @@ use native.Mathlib.Omega.{arith}
 use lib.ListN.{length, getD, set, take, drop, length-take, drop-of-length-le}
 use lib.Seq.{drop-cons, getD-take}
 use Rattle.machine_waiters.specs.Served.{missOf}
-use Rattle.machine_moves.specs.Kinds.{Task, Chan, Row, TaskState, Receiving, Offer, Nothing, By, Miss}
+use Rattle.machine_shut.specs.Kinds.{Task, Chan, Row, TaskState, Receiving, Offer, Nothing, By, Miss}
 use Rattle.meaning.specs.Image.{taskNo}
 use Rattle.machine_records.specs.Cells.{over, consIf, keep}
 use Rattle.machine_records.specs.laws.Cells.{lap-keeps, lap-drops}
@@ -18,7 +18,7 @@ use Rattle.machine_records.specs.Waiters.{isOffer, one, countOf, matchedAt, wai
 use Rattle.machine_records.specs.Plans.{idle, wokenBy, wokenTasks, wokenAll}
 use Rattle.machine_store.specs.Store.{recordsIn, RowIn, Plain, Made}
 use Rattle.machine_store.specs.laws.Store.{row-same, order-length}
-use Rattle.machine_moves.specs.Moves.{Began, WokenSo}
+use Rattle.machine_shut.specs.Moves.{Began, WokenSo}
 
 -- A task of the order is woken or kept: what has left the order counts the receivers.
 woken-or-kept : (b : Bool) (t : Task) (l : List Task) (n m : ℕ) → n + length l ≡ m → one b + n + length (consIf (not b) t l) ≡ suc m

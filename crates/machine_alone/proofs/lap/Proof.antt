@@ -1,11 +1,11 @@
 use mathlib.Core.Path.{refl}
 use Rattle.machine_store.specs.laws.Store.{made-then, made-turn}
-use Rattle.machine_moves.specs.Kinds.{Branched, Keep}
+use Rattle.machine_alone.specs.Kinds.{Branched, Keep}
 use borrow.Author.Needs.{needs}
-use Rattle.machine_moves.proofs.lap.Statement.{statement}
-use Rattle.machine_moves.proofs.lap.Tie as tie
-use Rattle.machine_moves.proofs.lap.Reads as reads
-use Rattle.machine_moves.proofs.lap.Lts as lts
+use Rattle.machine_alone.proofs.lap.Statement.{statement}
+use Rattle.machine_alone.proofs.lap.Tie as tie
+use Rattle.machine_alone.proofs.lap.Reads as reads
+use Rattle.machine_alone.proofs.lap.Lts as lts
 use Rattle.machine_store.proofs.task_lapped.Reads as task-lapped-reads
 use Rattle.machine_store.proofs.task_went.Reads as task-went-reads
 use Rattle.machine_store.proofs.tick.Reads as tick-reads

@@ -1,11 +1,11 @@
 use mathlib.Core.Path.{refl}
 use Rattle.machine_store.specs.laws.Store.{made-then, made-turn}
-use Rattle.machine_moves.specs.Kinds.{Waits, Keep}
+use Rattle.machine_alone.specs.Kinds.{Waits, Keep}
 use borrow.Author.Needs.{needs}
-use Rattle.machine_moves.proofs.wait.Statement.{statement}
-use Rattle.machine_moves.proofs.wait.Tie as tie
-use Rattle.machine_moves.proofs.wait.Reads as reads
-use Rattle.machine_moves.proofs.wait.Lts as lts
+use Rattle.machine_alone.proofs.wait.Statement.{statement}
+use Rattle.machine_alone.proofs.wait.Tie as tie
+use Rattle.machine_alone.proofs.wait.Reads as reads
+use Rattle.machine_alone.proofs.wait.Lts as lts
 use Rattle.machine_order.proofs.join.Reads as join-reads
 use Rattle.machine_store.proofs.task_stood.Reads as task-stood-reads
 use Rattle.machine_store.proofs.tick.Reads as tick-reads

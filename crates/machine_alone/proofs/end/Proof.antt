@@ -1,11 +1,11 @@
 use mathlib.Core.Path.{refl}
 use Rattle.machine_store.specs.laws.Store.{made-then, made-turn}
-use Rattle.machine_moves.specs.Kinds.{Finished, Keep}
+use Rattle.machine_alone.specs.Kinds.{Finished, Keep}
 use borrow.Author.Needs.{needs}
-use Rattle.machine_moves.proofs.end.Statement.{statement}
-use Rattle.machine_moves.proofs.end.Tie as tie
-use Rattle.machine_moves.proofs.end.Reads as reads
-use Rattle.machine_moves.proofs.end.Lts as lts
+use Rattle.machine_alone.proofs.end.Statement.{statement}
+use Rattle.machine_alone.proofs.end.Tie as tie
+use Rattle.machine_alone.proofs.end.Reads as reads
+use Rattle.machine_alone.proofs.end.Lts as lts
 use Rattle.machine_store.proofs.task_stood.Reads as task-stood-reads
 use Rattle.machine_store.proofs.tick.Reads as tick-reads
 

@@ -7,13 +7,13 @@ use Rattle.meaning.specs.Image.{taskNo}
 use Rattle.machine_records.specs.Records.{Records, withTasks}
 use Rattle.machine_store.specs.Store.{recordsIn, Plain}
 use Rattle.machine_store.specs.laws.Store.{order-length}
-use Rattle.machine_moves.specs.Moves.{Began}
-use Rattle.machine_moves.specs.laws.Moves.{WalkedSo, walked-none, walked-wakes, walked-keeps, others-same, walked-all}
+use Rattle.machine_shut.specs.Moves.{Began}
+use Rattle.machine_shut.specs.laws.Moves.{WalkedSo, walked-none, walked-wakes, walked-keeps, others-same, walked-all}
 use borrow.Author.Needs.{needs}
-use Rattle.machine_moves.proofs.wake_all.Statement.{statement}
-use Rattle.machine_moves.proofs.wake_all.Tie as tie
-use Rattle.machine_moves.proofs.wake_all.Reads as reads
-use Rattle.machine_moves.proofs.wake_all.Lts as lts
+use Rattle.machine_shut.proofs.wake_all.Statement.{statement}
+use Rattle.machine_shut.proofs.wake_all.Tie as tie
+use Rattle.machine_shut.proofs.wake_all.Reads as reads
+use Rattle.machine_shut.proofs.wake_all.Lts as lts
 use Rattle.machine_order.proofs.put_order.Reads as put-order-reads
 use Rattle.machine_store.proofs.name_at.Reads as name-at-reads
 use Rattle.machine_store.proofs.row_at.Reads as row-at-reads

@@ -1,11 +1,11 @@
 use mathlib.Core.Path.{refl}
 use Rattle.machine_store.specs.laws.Store.{made-then, made-turn}
-use Rattle.machine_moves.specs.Kinds.{Drained, Keep}
+use Rattle.machine_alone.specs.Kinds.{Drained, Keep}
 use borrow.Author.Needs.{needs}
-use Rattle.machine_moves.proofs.drain.Statement.{statement}
-use Rattle.machine_moves.proofs.drain.Tie as tie
-use Rattle.machine_moves.proofs.drain.Reads as reads
-use Rattle.machine_moves.proofs.drain.Lts as lts
+use Rattle.machine_alone.proofs.drain.Statement.{statement}
+use Rattle.machine_alone.proofs.drain.Tie as tie
+use Rattle.machine_alone.proofs.drain.Reads as reads
+use Rattle.machine_alone.proofs.drain.Lts as lts
 use Rattle.machine_store.proofs.task_got.Reads as task-got-reads
 use Rattle.machine_store.proofs.tick.Reads as tick-reads
 
