@@ -1,9 +1,9 @@
 use borrow.Author.Needs.{needs}
 use borrow.Author.Tests.{lt-ltb, le-ltb, eq-eqb, ne-eqb}
 use Rattle.meaning.specs.Bytes.{rowsIn}
-use Rattle.machine_fit.proofs.Laws.{op-waits}
-use Rattle.machine_fit.proofs.can_wait.Statement.{statement}
-use Rattle.machine_fit.proofs.can_wait.Tie as tie
+use Rattle.machine_place.proofs.Laws.{op-waits}
+use Rattle.machine_place.proofs.can_wait.Statement.{statement}
+use Rattle.machine_place.proofs.can_wait.Tie as tie
 
 returns : tie.Need-returns
 unfolding rowsIn

@@ -1,6 +1,6 @@
 use borrow.Author.Needs.{needs}
-use Rattle.machine_fit.proofs.task_fits.Statement.{statement}
-use Rattle.machine_fit.proofs.task_fits.Tie as tie
+use Rattle.machine_place.proofs.task_fits.Statement.{statement}
+use Rattle.machine_place.proofs.task_fits.Tie as tie
 
 returns : tie.Need-returns
 returns c = rw (c .place-fits .ensures, ← c .before .before .is-target .ensures, c .before .if1 .taken)

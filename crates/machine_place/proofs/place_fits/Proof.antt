@@ -3,9 +3,9 @@ use denote.Ref.{now}
 use Rattle.meaning.specs.Bytes.{rowsIn}
 use borrow.Author.Needs.{needs}
 use borrow.Author.Tests.{eq-eqb, ne-eqb}
-use Rattle.machine_fit.proofs.Laws.{place-marked, place-unmarked}
-use Rattle.machine_fit.proofs.place_fits.Statement.{statement}
-use Rattle.machine_fit.proofs.place_fits.Tie as tie
+use Rattle.machine_place.proofs.Laws.{place-marked, place-unmarked}
+use Rattle.machine_place.proofs.place_fits.Statement.{statement}
+use Rattle.machine_place.proofs.place_fits.Tie as tie
 
 returns : tie.Need-returns
 returns c =
