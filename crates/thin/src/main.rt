@@ -9,9 +9,9 @@ use meaning::Row;
 use meaning::Task;
 use thin_channel::Channel;
 use thin_channel::Taken;
-use thin_image::CapacityAnswer;
-use thin_image::FirstRowAnswer;
-use thin_image::RowAnswer;
+use thin_held::CapacityAnswer;
+use thin_held::FirstRowAnswer;
+use thin_held::RowAnswer;
 
 // The image of `chan 1  task send 0 7 send 0 9 close 0 end  task range 0 end end`, behind three bytes that aren't read. Line by
 // line: those three; rows 0 to 5, which are send 0 7, send 0 9, close 0, stop, range 0, stop; the capacity of channel 0; the

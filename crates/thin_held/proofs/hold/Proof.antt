@@ -1,8 +1,8 @@
-use Rattle.thin_image.specs.Asked.{heldOf}
+use Rattle.thin_held.specs.Asked.{heldOf}
 use Rattle.image_rows.specs.Rows.{countsOf}
 use borrow.Author.Needs.{needs}
-use Rattle.thin_image.proofs.ask.hold.Statement.{statement}
-use Rattle.thin_image.proofs.ask.hold.Tie as tie
+use Rattle.thin_held.proofs.hold.Statement.{statement}
+use Rattle.thin_held.proofs.hold.Tie as tie
 
 returns : tie.Need-returns
 unfolding heldOf countsOf

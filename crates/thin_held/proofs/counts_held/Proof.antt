@@ -1,7 +1,7 @@
-use Rattle.thin_image.specs.Asked.{countsHeld}
+use Rattle.thin_held.specs.Asked.{countsHeld}
 use borrow.Author.Needs.{needs}
-use Rattle.thin_image.proofs.ask.counts_held.Statement.{statement}
-use Rattle.thin_image.proofs.ask.counts_held.Tie as tie
+use Rattle.thin_held.proofs.counts_held.Statement.{statement}
+use Rattle.thin_held.proofs.counts_held.Tie as tie
 
 returns : tie.Need-returns
 unfolding countsHeld

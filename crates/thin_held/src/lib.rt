@@ -1,10 +1,7 @@
-// What is held of an image at its opening, and what is asked of the slice and of what is held.
+// What is held of an image at its opening, and what is asked of the slice and of what is held. The struct that holds both is
+// thin_image's.
 ghost use mathlib.Core.Path.{_≡_};
-ghost use Rattle.thin_image.specs.Asked.{countsHeld, heldOf, rowAsked, capacityAsked, firstRowAsked};
-use crate::CapacityAnswer;
-use crate::FirstRowAnswer;
-use crate::Held;
-use crate::RowAnswer;
+ghost use Rattle.thin_held.specs.Asked.{countsHeld, heldOf, rowAsked, capacityAsked, firstRowAsked};
 use image_check::Checked;
 use image_check::check;
 use image_rows::Counts;
@@ -16,7 +13,30 @@ use image_rows::table::first_row_in;
 use image_rows::table::statement_at;
 use meaning::Chan;
 use meaning::Row;
+use meaning::Statement;
 use meaning::Task;
+
+// What the check answered, and what the trailer counts: nothing, where the check refused.
+pub struct Held {
+    pub answer: Checked,
+    pub counts: Counts,
+}
+
+// The row, capacity or first row asked for, or no such row, channel or task.
+pub enum RowAnswer {
+    Found(Statement),
+    No,
+}
+
+pub enum CapacityAnswer {
+    Found(u8),
+    No,
+}
+
+pub enum FirstRowAnswer {
+    Found(Row),
+    No,
+}
 
 fn counts_held(answer: Checked, k: Counts) -> Counts
     ensures { λ r. ⌜ r ≡ countsHeld answer k ⌝ }

@@ -4,14 +4,13 @@ use mathlib.Core.Bool.{cond}
 use mathlib.Core.List.{List}
 use Prim.Native.Nat.{ℕ}
 use lib.Dec.{ltb}
-use denote.Ref.{RefT, now}
-use Rattle.thin_image.specs.Kinds.{Row, Chan, Task, Counts, Checked, Good, Refused, Held, Opened, RowAnswer, CapacityAnswer, FirstRowAnswer, Answers}
+use Rattle.thin_held.specs.Kinds.{Row, Chan, Task, Counts, Checked, Good, Refused, Held, RowAnswer, CapacityAnswer, FirstRowAnswer}
 use Rattle.meaning.specs.Bytes.{bodyOf, rowsOf, capacityIn, firstRowIn}
 use Rattle.image_rows.specs.Rows.{countsOf}
 use Rattle.image_check.specs.Check.{checked}
-use Rattle.thin_image.specs.declared.RowAnswer.the-variants.{Found as rowFound, No as noRow}
-use Rattle.thin_image.specs.declared.CapacityAnswer.the-variants.{Found as capacityFound, No as noCapacity}
-use Rattle.thin_image.specs.declared.FirstRowAnswer.the-variants.{Found as firstRowFound, No as noFirstRow}
+use Rattle.thin_held.specs.declared.RowAnswer.the-variants.{Found as rowFound, No as noRow}
+use Rattle.thin_held.specs.declared.CapacityAnswer.the-variants.{Found as capacityFound, No as noCapacity}
+use Rattle.thin_held.specs.declared.FirstRowAnswer.the-variants.{Found as firstRowFound, No as noFirstRow}
 
 -- OPENING
 
@@ -25,9 +24,6 @@ countsHeld (Refused number place) k = noCounts
 
 unfoldable pub heldOf : List ℕ → Held
 heldOf bs = record { answer = checked bs; counts = countsHeld (checked bs) (countsOf bs) }
-
-abbrev pub openedOf : RefT (List ℕ) → Opened
-openedOf s = record { image = s; held = heldOf (now s) }
 
 -- ASKING
 
@@ -50,6 +46,3 @@ capacityOf bs c = capacityAsked bs (heldOf bs) c
 
 abbrev pub firstRowOf : List ℕ → Task → FirstRowAnswer
 firstRowOf bs t = firstRowAsked bs (heldOf bs) t
-
-abbrev pub answersOf : List ℕ → Row → Chan → Task → Answers
-answersOf bs n c t = record { check = checked bs; row = rowOf bs n; capacity = capacityOf bs c; start = firstRowOf bs t }

@@ -1,9 +1,9 @@
-use Rattle.thin_image.specs.Asked.{rowAsked}
+use Rattle.thin_held.specs.Asked.{rowAsked}
 use Rattle.meaning.specs.Bytes.{rowsOf}
 use borrow.Author.Tests.{lt-ltb, le-ltb}
 use borrow.Author.Needs.{needs}
-use Rattle.thin_image.proofs.ask.row_asked.Statement.{statement}
-use Rattle.thin_image.proofs.ask.row_asked.Tie as tie
+use Rattle.thin_held.proofs.row_asked.Statement.{statement}
+use Rattle.thin_held.proofs.row_asked.Tie as tie
 
 returns : tie.Need-returns
 unfolding rowAsked rowsOf

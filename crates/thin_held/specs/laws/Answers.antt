@@ -5,14 +5,14 @@ use mathlib.Core.List.{List}
 use Prim.Native.Nat.{ℕ, _≤_, _<_}
 use native.Mathlib.Omega.{arith}
 use borrow.Author.Tests.{lt-ltb, le-ltb}
-use Rattle.thin_image.specs.Kinds.{Row, Chan, Task, Good, Refused}
+use Rattle.thin_held.specs.Kinds.{Row, Chan, Task, Good, Refused}
 use Rattle.meaning.specs.Bytes.{rowCount, channelCount, taskCount, bodyOf, rowsOf, capacityIn, firstRowIn}
 use Rattle.image_rows.specs.Rows.{countsIn, countsOf}
 use Rattle.image_check.specs.Check.{checked}
-use Rattle.thin_image.specs.declared.RowAnswer.the-variants.{Found as rowFound, No as noRow}
-use Rattle.thin_image.specs.declared.CapacityAnswer.the-variants.{Found as capacityFound, No as noCapacity}
-use Rattle.thin_image.specs.declared.FirstRowAnswer.the-variants.{Found as firstRowFound, No as noFirstRow}
-use Rattle.thin_image.specs.Asked.{countsHeld, heldOf, rowAsked, capacityAsked, firstRowAsked, rowOf, capacityOf, firstRowOf}
+use Rattle.thin_held.specs.declared.RowAnswer.the-variants.{Found as rowFound, No as noRow}
+use Rattle.thin_held.specs.declared.CapacityAnswer.the-variants.{Found as capacityFound, No as noCapacity}
+use Rattle.thin_held.specs.declared.FirstRowAnswer.the-variants.{Found as firstRowFound, No as noFirstRow}
+use Rattle.thin_held.specs.Asked.{countsHeld, heldOf, rowAsked, capacityAsked, firstRowAsked, rowOf, capacityOf, firstRowOf}
 
 module _ (bs : List ℕ) where
   module _ (number place : ℕ) (refused : checked bs ≡ Refused number place) where

@@ -1,8 +1,8 @@
-use Rattle.thin_image.specs.Asked.{capacityAsked}
+use Rattle.thin_held.specs.Asked.{capacityAsked}
 use borrow.Author.Tests.{lt-ltb, le-ltb}
 use borrow.Author.Needs.{needs}
-use Rattle.thin_image.proofs.ask.capacity_asked.Statement.{statement}
-use Rattle.thin_image.proofs.ask.capacity_asked.Tie as tie
+use Rattle.thin_held.proofs.capacity_asked.Statement.{statement}
+use Rattle.thin_held.proofs.capacity_asked.Tie as tie
 
 returns : tie.Need-returns
 unfolding capacityAsked
