@@ -1,7 +1,7 @@
 // Shows the two thin forms on the worked listing of document 01, one line for each answer. The image of its job is opened and
 // asked, once as it is and three times with a fault in it; then a channel is appended to and taken from, at its limits too.
 use image_check::Checked;
-use image_rows::table::fields_of;
+use image_put::fields_of;
 use libc::STDOUT_FILENO;
 use meaning::Chan;
 use meaning::Fields;

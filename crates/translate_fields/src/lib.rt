@@ -5,7 +5,7 @@ ghost use Prim.Native.Nat.{_+_, _-_, _/_, _%_};
 ghost use Rattle.meaning.specs.Bytes.{fields, bytesOf};
 ghost use Rattle.image_rows.specs.Rows.{fieldsPut};
 ghost use Rattle.translate_fields.specs.Rows.{firstOf, leadsTo, selectFields, noteFields, caseFields};
-use image_rows::table::put_fields;
+use image_put::put_fields;
 use meaning::Fields;
 use meaning::Row;
 

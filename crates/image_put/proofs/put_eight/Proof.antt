@@ -2,8 +2,8 @@ use native.Mathlib.Omega.{arith}
 use lib.ListN.{length-set}
 use native.Mathlib.Numerals.{towards-suc}
 use borrow.Author.Needs.{needs}
-use Rattle.image_rows.proofs.table.put_eight.Statement.{statement}
-use Rattle.image_rows.proofs.table.put_eight.Tie as tie
+use Rattle.image_put.proofs.put_eight.Statement.{statement}
+use Rattle.image_put.proofs.put_eight.Tie as tie
 
 pub put-eight-spec : {M : Type 1} → statement M
 put-eight-spec =

@@ -1,7 +1,7 @@
 use Rattle.meaning.specs.Bytes.{fieldsOf}
 use borrow.Author.Needs.{needs}
-use Rattle.image_rows.proofs.table.fields_of.Statement.{statement}
-use Rattle.image_rows.proofs.table.fields_of.Tie as tie
+use Rattle.image_put.proofs.fields_of.Statement.{statement}
+use Rattle.image_put.proofs.fields_of.Tie as tie
 
 returns : tie.Need-returns
 unfolding fieldsOf

@@ -1,8 +1,8 @@
 use borrow.Author.Tests.{le-leb, lt-leb}
 use Rattle.image_rows.specs.Rows.{fieldsPut}
 use borrow.Author.Needs.{needs}
-use Rattle.image_rows.proofs.table.put_fields.Statement.{statement}
-use Rattle.image_rows.proofs.table.put_fields.Tie as tie
+use Rattle.image_put.proofs.put_fields.Statement.{statement}
+use Rattle.image_put.proofs.put_fields.Tie as tie
 
 returns : tie.Need-returns
 unfolding fieldsPut

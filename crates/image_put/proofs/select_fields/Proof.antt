@@ -1,7 +1,7 @@
 use Rattle.meaning.specs.Bytes.{fieldsOf}
 use borrow.Author.Needs.{needs}
-use Rattle.image_rows.proofs.table.select_fields.Statement.{statement}
-use Rattle.image_rows.proofs.table.select_fields.Tie as tie
+use Rattle.image_put.proofs.select_fields.Statement.{statement}
+use Rattle.image_put.proofs.select_fields.Tie as tie
 
 returns : tie.Need-returns
 unfolding fieldsOf

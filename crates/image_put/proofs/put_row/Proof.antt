@@ -1,7 +1,7 @@
 use Rattle.image_rows.specs.Rows.{rowPut}
 use borrow.Author.Needs.{needs}
-use Rattle.image_rows.proofs.table.put_row.Statement.{statement}
-use Rattle.image_rows.proofs.table.put_row.Tie as tie
+use Rattle.image_put.proofs.put_row.Statement.{statement}
+use Rattle.image_put.proofs.put_row.Tie as tie
 
 returns : tie.Need-returns
 unfolding rowPut

@@ -1,7 +1,7 @@
 use Rattle.meaning.specs.Bytes.{fieldsOf}
 use borrow.Author.Needs.{needs}
-use Rattle.image_rows.proofs.table.case_fields.Statement.{statement}
-use Rattle.image_rows.proofs.table.case_fields.Tie as tie
+use Rattle.image_put.proofs.do_fields.Statement.{statement}
+use Rattle.image_put.proofs.do_fields.Tie as tie
 
 returns : tie.Need-returns
 unfolding fieldsOf
@@ -15,8 +15,8 @@ returns-3 : tie.Need-returns-3
 unfolding fieldsOf
 returns-3 c = rw (c .before .before .o3 .given .1, c .port-number3 .ensures)
 
-pub case-fields-spec : {M : Type 1} → statement M
-case-fields-spec =
+pub do-fields-spec : {M : Type 1} → statement M
+do-fields-spec =
     tie.close
     (tie.spec
     (λ c. search needs)
