@@ -1,5 +1,5 @@
-// Rows in bytes: the layer that turns a lent slice of bytes into statements, and statements into bytes. It reads in place and
-// answers every slice; whether a slice is a step image at all is asked above, in `image_check`.
+// Rows in bytes: the layer that turns a lent slice of bytes into statements; `image_put` turns statements into bytes. It reads in
+// place and answers every slice; whether a slice is a step image at all is asked above, in `image_check`.
 pub mod bytes;
 pub mod table;
 

@@ -1,23 +1,22 @@
--- One lap of each loop, and what a row's op and a task's mark tell. Assumes nothing.
+-- The tests one behind the other, and one lap of each loop. Assumes nothing.
 use mathlib.Core.Path.{_≡_, refl, sym, ap, _∙_}
-use mathlib.Core.Bool.{Bool, true, false, cond, not, _&&_, and-true, and-false, and-comm, and-assoc}
+use mathlib.Core.Bool.{Bool, true, false, _&&_, and-true, and-false, and-comm, and-assoc}
 use mathlib.Core.List.{List}
 use Prim.Native.Nat.{ℕ, zero, suc, _+_, _-_, _%_, _<_, _≤_}
 use native.Mathlib.Numerals.{add-one}
 use native.Mathlib.Omega.{arith}
 use native.Mathlib.Decide.{ℕ-discrete, decLe}
-use borrow.Author.Tests.{eq-eqb, ne-eqb, le-ltb, le-leb, lt-leb}
-use lib.Dec.{eqb, leb, ltb}
+use borrow.Author.Tests.{eq-eqb, ne-eqb, le-leb, lt-leb}
+use lib.Dec.{eqb, leb}
 use lib.ListN.{length, getD, set, take, drop, length-take, drop-of-length-le, replicate}
 use lib.Seq.{drop-cons, getD-take, getD-set-same, getD-set-other}
-use Rattle.machine_fit.specs.Kinds.{Task, Counts, Fields, Row, Wait, Go, Statement, Status, Able, Waiting, Ended}
-use Rattle.meaning.specs.Bytes.{fields, statementOf}
-use Rattle.meaning.specs.laws.Ops.{beyond, by-op}
-use Rattle.meaning_laws.specs.Fits.{one, times, mark}
+use Rattle.machine_fit.specs.Kinds.{Task, Counts}
+use Rattle.meaning.specs.Numbers.{taskLimit, closeUnderSender}
+use Rattle.meaning_laws.specs.Fits.{one, times}
 use Rattle.meaning.specs.Image.{taskNo}
 use Rattle.machine_records.specs.laws.Every.{every-step}
 use Rattle.machine_records.specs.Records.{Records}
-use Rattle.machine_records.specs.Fitting.{every, noDefault, canWait, placeFits, nameFits, lengthFits, taskFits}
+use Rattle.machine_records.specs.Fitting.{every, nameFits, lengthFits, taskFits, fitting}
 use Rattle.machine_store.specs.Store.{recordsIn}
 use Rattle.machine_store.specs.laws.Store.{order-length}
 use Rattle.machine_fit.specs.Walks.{walksFit}
@@ -43,6 +42,44 @@ module _ (rs : List ℕ) (k : Counts) (s : Records) (n : ℕ) (x : Bool) (waitin
   pub tasks-tell : x ≡ true → (y : Bool) → y ≡ every (lengthFits rs k s) (k .channels) 0 → y ≡ true
       → (z : Bool) → z ≡ every (taskFits rs k s) (k .tasks) 0 → z ≡ walksFit rs k s
   tasks-tell e y l f z t = both-tell _ _ z (named ∙ e) (both-tell _ _ z (sym l ∙ f) t)
+
+-- THE TESTS OF SINGLE NUMBERS, ONE BEHIND THE OTHER: x, y, f and n are the counts, the fault and the number of those that wait as they
+-- were read, and z is what the walks said.
+
+module _ (rs : List ℕ) (k : Counts) (s : Records) (x : ℕ) (tasks : x ≡ s .taskcount) where
+  pub tasks-differ : (x ≡ k .tasks → ⊥) → false ≡ fitting rs k s
+  unfolding fitting
+  tasks-differ d = first-fails _ _ (ap (λ q. eqb q (k .tasks)) (sym tasks) ∙ ne-eqb _ _ d)
+
+  module _ (t : x ≡ k .tasks) (y : ℕ) (channels : y ≡ s .chancount) where
+    abbrev tasks-are : eqb (s .taskcount) (k .tasks) ≡ true
+    tasks-are = ap (λ q. eqb q (k .tasks)) (sym tasks) ∙ eq-eqb _ _ t
+
+    pub channels-differ : (y ≡ k .channels → ⊥) → false ≡ fitting rs k s
+    unfolding fitting
+    channels-differ d = both-tell _ _ false tasks-are (first-fails _ _ (ap (λ q. eqb q (k .channels)) (sym channels) ∙ ne-eqb _ _ d))
+
+    module _ (c : y ≡ k .channels) (f : ℕ) (fault : f ≡ s .fault) where
+      abbrev channels-are : eqb (s .chancount) (k .channels) ≡ true
+      channels-are = ap (λ q. eqb q (k .channels)) (sym channels) ∙ eq-eqb _ _ c
+
+      pub fault-over : closeUnderSender < f → false ≡ fitting rs k s
+      unfolding fitting
+      fault-over h = both-tell _ _ false tasks-are (both-tell _ _ false channels-are (first-fails _ _ (ap (λ q. leb q closeUnderSender) (sym fault) ∙ lt-leb _ _ h)))
+
+      module _ (b : f ≤ closeUnderSender) (n : ℕ) (waiting : n ≡ s .waiting) where
+        abbrev fault-is : leb (s .fault) closeUnderSender ≡ true
+        fault-is = ap (λ q. leb q closeUnderSender) (sym fault) ∙ le-leb _ _ b
+
+        pub waiting-over : taskLimit < n → false ≡ fitting rs k s
+        unfolding fitting
+        waiting-over h =
+            both-tell _ _ false tasks-are (both-tell _ _ false channels-are (both-tell _ _ false fault-is (first-fails _ _ (ap (λ q. leb q taskLimit) (sym waiting) ∙ lt-leb _ _ h))))
+
+        pub walks-tell : n ≤ taskLimit → (z : Bool) → z ≡ walksFit rs k s → z ≡ fitting rs k s
+        unfolding fitting
+        walks-tell h z e =
+            both-tell _ _ z tasks-are (both-tell _ _ z channels-are (both-tell _ _ z fault-is (both-tell _ _ z (ap (λ q. leb q taskLimit) (sym waiting) ∙ le-leb _ _ h) e)))
 
 -- THE LARGEST OF SOME CELLS
 
@@ -122,35 +159,3 @@ module _ (w c : List ℕ) (n i : ℕ) (u : Task) (h : i < n) (b : n ≤ 16) (e :
   count-step cells t all k d q =
       let m : u .0 % 16 ≡ u .0 = omega arith in
       rw m (omega (arith, q, times-step (taskNo t), cell-step cells (u .0) t (omega arith)))
-
--- WHAT AN OP TELLS
-
--- As the code asks it: ops 1 to 3, 5, and 8 without default.
-abbrev pub opWaits : ℕ → ℕ → Bool
-opWaits op arg = cond (ltb op 4) (ltb 0 op) (cond (eqb op 8) (not (eqb arg 1)) (eqb op 5))
-
-no-default : (b : Bool) (n : Row) → noDefault (cond b (Go n) Wait) ≡ not b
-no-default true n = refl
-no-default false n = refl
-
-past-ops : (n arg : ℕ) → 8 < n → opWaits n arg ≡ false
-past-ops n arg h = rw (le-ltb n 4 (omega arith), ne-eqb n 8 (λ e. omega arith), ne-eqb n 5 (λ e. omega arith))
-
-pub op-waits : (f : Fields) → canWait (statementOf f) ≡ opWaits (f .op) (f .arg)
-unfolding statementOf
-op-waits f =
-    by-op (λ n. canWait (statementOf (fields n (f .chan) (f .arg) (f .next) (f .other))) ≡ opWaits n (f .arg))
-    refl refl refl refl refl refl refl refl (no-default (eqb (f .arg) 1) (record { 0 = f .next })) refl refl refl refl
-    (λ n. sym (past-ops (beyond n) (f .arg) (omega arith))) (f .op)
-
--- WHAT A MARK TELLS
-
-pub place-marked : (x : Status) (s : Statement) → mark x ≡ 1 → placeFits x s ≡ canWait s
-place-marked Able s e = cc
-place-marked Waiting s e = refl
-place-marked Ended s e = cc
-
-pub place-unmarked : (x : Status) (s : Statement) (n : ℕ) → (mark x ≡ 1 → ⊥) → (eqb n (mark x) && placeFits x s) ≡ eqb n 0
-place-unmarked Able s n d = and-true (eqb n 0)
-place-unmarked Waiting s n d = absurd (d refl)
-place-unmarked Ended s n d = and-true (eqb n 0)

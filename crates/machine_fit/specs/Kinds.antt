@@ -1,11 +1,3 @@
 -- Every kind that this crate speaks of, its own and those of the crates below.
 pub use Rattle.meaning.specs.declared.Task.{Task}
-pub use Rattle.meaning.specs.declared.Row.{Row}
-pub use Rattle.meaning.specs.declared.Otherwise.{Otherwise}
-pub use Rattle.meaning.specs.declared.Otherwise.the-variants.{Wait, Go}
-pub use Rattle.meaning.specs.declared.Statement.{Statement}
-pub use Rattle.meaning.specs.declared.Fields.{Fields}
-pub use Rattle.meaning.specs.declared.Status.{Status}
-pub use Rattle.meaning.specs.declared.Status.the-variants.{Able, Waiting, Ended}
 pub use Rattle.image_rows.specs.declared.Counts.{Counts}
-pub use Rattle.machine_records.specs.declared.TaskState.{TaskState}

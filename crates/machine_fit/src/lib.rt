@@ -6,18 +6,15 @@ ghost use mathlib.Core.Bool.{true, _&&_};
 ghost use Prim.Native.Nat.{ℕ, _+_, _≤_, _<_};
 ghost use lib.Dec.{leb};
 ghost use lib.ListN.{take, replicate};
-ghost use Rattle.machine_records.specs.Fitting.{every, canWait, nameFits, lengthFits, taskFits, fitting};
+ghost use Rattle.machine_records.specs.Fitting.{every, nameFits, lengthFits, taskFits, fitting};
 ghost use Rattle.machine_store.specs.Store.{recordsIn};
 ghost use Rattle.machine_fit.specs.Fitted.{allAtMost, plainly, fittingIn};
-ghost use Rattle.machine_fit.specs.Walks.{Counted, placeNamed, recordNamed, walksFit};
+ghost use Rattle.machine_fit.specs.Walks.{Counted, walksFit};
 ghost use Rattle.meaning.specs.Numbers.{taskLimit};
-ghost use Rattle.meaning.specs.Bytes.{rowsIn};
-ghost use Rattle.meaning_laws.specs.Fits.{times, mark};
-use image_row::is_target;
+ghost use Rattle.meaning_laws.specs.Fits.{times};
 use image_rows::Counts;
 use image_rows::table::capacity_in;
-use image_rows::table::fields_of_row;
-use machine_records::TaskState;
+use machine_place::task_fits;
 use machine_store::CLOSED;
 use machine_store::OK;
 use machine_store::STATE_CELLS;
@@ -30,8 +27,6 @@ use machine_store::task_at;
 use machine_store::taskcount_in;
 use machine_store::waiting_in;
 use meaning::Chan;
-use meaning::Row;
-use meaning::Status;
 use meaning::Task;
 use meaning::sizes::CHANS;
 use meaning::sizes::TASKS;
@@ -76,59 +71,6 @@ fn plain(cells: &[u8; STATE_CELLS]) -> bool
             return at_most(cells, CLOSED, CHANS as usize, LAST_MARK);
         }
         return false;
-    }
-    false
-}
-
-// ONE TASK
-
-// Whether the operation of a row can wait. Its op tells, so that no statement is made of it: send, forward and recv are 1 to 3,
-// range is 5, and a select, 8, waits unless it has a default.
-fn can_wait(body: &[u8], row: Row) -> bool
-    ensures { λ r. ⌜ r ≡ canWait (rowsIn (now (body .entry)) row) ⌝ }
-{
-    let f = fields_of_row(body, row);
-    if f.op < 4 {
-        return 0 < f.op;
-    }
-    if f.op == 8 {
-        return f.arg != 1;
-    }
-    f.op == 5
-}
-
-// How often a task should stand in the order.
-fn mark_of(status: Status) -> u8
-    ensures { λ r. ⌜ r ≡ mark status ⌝ }
-{
-    match status {
-        Status::Able => 0,
-        Status::Waiting => 1,
-        Status::Ended => 0,
-    }
-}
-
-// Whether a task of this status, at this row and so often named, stands in the order as it should.
-fn place_fits(body: &[u8], row: Row, status: Status, named: u8) -> bool
-    ensures { λ r. ⌜ r ≡ placeNamed (now (body .entry)) row status named ⌝ }
-{
-    if mark_of(status) == 1 {
-        if named == 1 {
-            return can_wait(body, row);
-        }
-        return false;
-    }
-    named == 0
-}
-
-// Whether a task that stands as x and is so often named fits.
-fn task_fits(body: &[u8], rows: u16, x: TaskState, named: u8) -> bool
-    ensures { λ r. ⌜ r ≡ recordNamed (now (body .entry)) rows x named ⌝ }
-{
-    let row = x.row;
-    let status = x.status;
-    if is_target(body, rows, row) {
-        return place_fits(body, row, status, named);
     }
     false
 }

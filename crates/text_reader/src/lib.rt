@@ -1,10 +1,10 @@
-// The reader of a job text, word by word: each function decides one word or a few, with the refusals that fall due there, and carries
-// numbers alone: a place in the text, the rows so far, the depth, the channels. Pass 1 of the translator strings them together by
-// recursive descent, as specs/Reading.antt does, and so has every refusal from here before a byte is written.
+// What a reader of a job text answers, word by word. The functions that answer stand above, in text_due, text_heads, text_blocks and
+// text_jobs: each decides one word or a few, with the refusals that fall due there, and carries numbers alone: a place in the text, the
+// rows so far, the depth, the channels. Pass 1 of the translator strings them together by recursive descent, as specs/Reading.antt
+// does, and so has every refusal from them before a byte is written.
 use meaning::Op;
 use meaning::Port;
 
-pub mod heads;
 pub mod kinds;
 
 // What reading a part of the text answers: the place behind it and the rows so far; that no such part stands here; or a

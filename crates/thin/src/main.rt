@@ -1,7 +1,7 @@
 // Shows the two thin forms on the worked listing of document 01, one line for each answer. The image of its job is opened and
 // asked, once as it is and three times with a fault in it; then a channel is appended to and taken from, at its limits too.
 use image_check::Checked;
-use image_rows::table::fields_of;
+use image_put::fields_of;
 use libc::STDOUT_FILENO;
 use meaning::Chan;
 use meaning::Fields;
@@ -9,9 +9,9 @@ use meaning::Row;
 use meaning::Task;
 use thin_channel::Channel;
 use thin_channel::Taken;
-use thin_image::CapacityAnswer;
-use thin_image::FirstRowAnswer;
-use thin_image::RowAnswer;
+use thin_held::CapacityAnswer;
+use thin_held::FirstRowAnswer;
+use thin_held::RowAnswer;
 
 // The image of `chan 1  task send 0 7 send 0 9 close 0 end  task range 0 end end`, behind three bytes that aren't read. Line by
 // line: those three; rows 0 to 5, which are send 0 7, send 0 9, close 0, stop, range 0, stop; the capacity of channel 0; the

@@ -48,24 +48,24 @@ use denote.Triple.Table.{entered, cited}
 use denote.Triple.Walked.{Stays, stay-none, walkOf, goes-none, ends-at, walked, walk-meets}
 use denote.Exit.{Exit, Last, left, unchanged, yes}
 use denote.Triple.Clauses.{Ended, Clauses, AtExit, ensured, lasts, closing}
-use Rattle.thin_image.specs.Asked.{rowAsked, capacityAsked, firstRowAsked}
+use Rattle.thin_held.specs.Asked.{rowAsked, capacityAsked, firstRowAsked}
 use Rattle.thin_image.specs.Kinds.{Opened, Held}
 use Rattle.thin_image.proofs.Opened as T
 use Rattle.thin_image.proofs.Opened.Laws as T′
-use Rattle.thin_image.proofs.Held as K
-use Rattle.thin_image.proofs.Held.Laws as K′
+use Rattle.thin_held.proofs.Held as K
+use Rattle.thin_held.proofs.Held.Laws as K′
 use Rattle.meaning.proofs.Row as N₁
 use Rattle.meaning.proofs.Row.Laws as N₁′
 use Rattle.meaning.proofs.Chan as N₂
 use Rattle.meaning.proofs.Chan.Laws as N₂′
 use Rattle.meaning.proofs.Task as N₃
 use Rattle.meaning.proofs.Task.Laws as N₃′
-use Rattle.thin_image.proofs.RowAnswer as S₁
-use Rattle.thin_image.proofs.RowAnswer.Laws as S₁′
-use Rattle.thin_image.proofs.CapacityAnswer as S₂
-use Rattle.thin_image.proofs.CapacityAnswer.Laws as S₂′
-use Rattle.thin_image.proofs.FirstRowAnswer as S₃
-use Rattle.thin_image.proofs.FirstRowAnswer.Laws as S₃′
+use Rattle.thin_held.proofs.RowAnswer as S₁
+use Rattle.thin_held.proofs.RowAnswer.Laws as S₁′
+use Rattle.thin_held.proofs.CapacityAnswer as S₂
+use Rattle.thin_held.proofs.CapacityAnswer.Laws as S₂′
+use Rattle.thin_held.proofs.FirstRowAnswer as S₃
+use Rattle.thin_held.proofs.FirstRowAnswer.Laws as S₃′
 
 -- a kind of question: the number's type and the answer's, with their laws, and the answer
 pub record Kind : Type 2 where

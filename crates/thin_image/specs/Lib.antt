@@ -1,3 +1,2 @@
 pub mod Kinds
-pub mod Asked
-pub mod laws
+pub mod Opened

@@ -5,46 +5,24 @@
 // No enum can hold a struct that holds a reference, so `open` cannot answer "refused, or opened": the check's answer stands in
 // the struct. Its fields are private, so that `open` alone makes one.
 ghost use mathlib.Core.Path.{_≡_};
-ghost use Rattle.thin_image.specs.Asked.{openedOf, rowAsked, capacityAsked, firstRowAsked, answersOf};
-
-mod ask;
-
-use ask::capacity_asked;
-use ask::first_row_asked;
-use ask::hold;
-use ask::row_asked;
+ghost use Rattle.thin_held.specs.Asked.{rowAsked, capacityAsked, firstRowAsked};
+ghost use Rattle.thin_image.specs.Opened.{openedOf, answersOf};
 use image_check::Checked;
-use image_rows::Counts;
 use meaning::Chan;
 use meaning::Row;
-use meaning::Statement;
 use meaning::Task;
-
-// What the check answered, and what the trailer counts: nothing, where the check refused.
-pub struct Held {
-    pub answer: Checked,
-    pub counts: Counts,
-}
+use thin_held::CapacityAnswer;
+use thin_held::FirstRowAnswer;
+use thin_held::Held;
+use thin_held::RowAnswer;
+use thin_held::capacity_asked;
+use thin_held::first_row_asked;
+use thin_held::hold;
+use thin_held::row_asked;
 
 pub struct Opened<'a> {
     image: &'a [u8],
     held: Held,
-}
-
-// The row, capacity or first row asked for, or no such row, channel or task.
-pub enum RowAnswer {
-    Found(Statement),
-    No,
-}
-
-pub enum CapacityAnswer {
-    Found(u8),
-    No,
-}
-
-pub enum FirstRowAnswer {
-    Found(Row),
-    No,
 }
 
 // The answers to a question of each kind.
@@ -71,7 +49,7 @@ pub fn answer<'a>(o: Opened<'a>) -> Checked
     o.held.answer
 }
 
-// Each takes the struct apart and asks a function of `ask`.
+// Each takes the struct apart and asks a function of thin_held.
 
 pub fn row<'a>(o: Opened<'a>, n: Row) -> RowAnswer
     ensures { λ r. ⌜ r ≡ rowAsked (now (o .entry .image)) (o .entry .held) n ⌝ }

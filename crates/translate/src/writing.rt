@@ -7,8 +7,8 @@ use crate::bytes::put_byte;
 use crate::bytes::put_trailer;
 use crate::bytes::put_two;
 use meaning::sizes::TASKS;
+use text_due::read_number;
 use text_reader::NumberRead;
-use text_reader::heads::read_number;
 use text_reader::kinds::CAPACITY_LIMIT;
 use text_words::word_at;
 

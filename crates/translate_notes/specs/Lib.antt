@@ -1,4 +1,3 @@
 pub mod Kinds
 pub mod Notes
-pub mod Rows
 pub mod laws

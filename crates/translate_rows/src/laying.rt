@@ -1,13 +1,13 @@
 // Pass 2 of the translator: the rows of an accepted text from what pass 1 has noted of it; the text is not looked at. A part is noted
 // from row r on, in text order, and written from row i on, where the image has it; j or `after` is the row to which it leads.
 ghost use mathlib.Core.Path.{_≡_};
-ghost use Rattle.translate_notes.specs.Rows.{firstOf};
+ghost use Rattle.translate_fields.specs.Rows.{firstOf};
 ghost use Rattle.translate_rows.specs.Stored.{StmtThere, BodyThere, BodiesThere, CasesThere, StmtStored, BodyStored, BodiesStored, CasesStored};
 use meaning::Row;
+use translate_fields::leads_to;
+use translate_fields::put_case;
+use translate_fields::put_statement;
 use translate_notes::NOTES;
-use translate_notes::rows::leads_to;
-use translate_notes::rows::put_case;
-use translate_notes::rows::put_statement;
 
 // What follows a statement: the next one of its body, where so many rows are left of it, or the row to which the body leads.
 fn following(left: u16, next: Row, j: Row) -> Row

@@ -1,6 +1,7 @@
 // Pass 1, bodies: read by functions that call each other as the definitions do, and noted. A statement or case that holds others is
 // noted behind them, once all of its rows are known, so that every note is stored once. `depth` is the number of blocks around the
-// body that is read; it needs no stack but the calls themselves, at most six blocks deep. Every refusal is decided in text_reader.
+// body that is read; it needs no stack but the calls themselves, at most six blocks deep. Every refusal is decided below, in text_heads
+// and text_blocks.
 ghost use Prim.Native.Nat.{_<_, _≤_};
 ghost use Rattle.meaning.specs.Numbers.{rowLimit};
 ghost use Rattle.text_reader.specs.Answers.{BodyTold, BlockTold, SecondTold, IfokTold, CaseTold, CasesTold, LastTold, SelectTold, StmtTold};
@@ -8,22 +9,22 @@ ghost use Rattle.translate_rows.specs.Noted.{BodyNoted, StmtNoted, Block
 use meaning::Row;
 use meaning::port_number;
 use meaning::sizes::CASES;
-use text_blocks::blocks::read_case_head;
-use text_blocks::blocks::read_end;
+use text_blocks::read_case_head;
+use text_blocks::read_end;
+use text_heads::read_head;
 use text_reader::CaseHead;
 use text_reader::Counted;
 use text_reader::Head;
 use text_reader::Read;
-use text_reader::heads::read_head;
 use text_reader::kinds::DEFAULT;
 use text_reader::kinds::ELSE;
 use text_words::word_at;
 use translate_notes::NOTES;
-use translate_notes::made::case_head;
-use translate_notes::made::head_of;
-use translate_notes::made::note;
-use translate_notes::made::op_arg;
-use translate_notes::made::op_head;
+use translate_notes::case_head;
+use translate_notes::head_of;
+use translate_notes::note;
+use translate_notes::op_arg;
+use translate_notes::op_head;
 
 // The ops of the rows that are no operation's, and the first number of those rows that have no chan.
 const CLOSE_OP: u8 = 4;

@@ -7,9 +7,9 @@ use crate::reading::STOP_HEAD;
 use crate::reading::read_body;
 use meaning::Row;
 use meaning::sizes::TASKS;
-use text_blocks::jobs::read_chans;
-use text_blocks::jobs::read_task_end;
-use text_blocks::jobs::read_task_head;
+use text_jobs::read_chans;
+use text_jobs::read_task_end;
+use text_jobs::read_task_head;
 use text_reader::Counted;
 use text_reader::Read;
 use text_reader::Reading;
@@ -20,7 +20,7 @@ use text_reader::kinds::TEXT_TOO_LONG;
 use text_words::Place;
 use text_words::first_not_allowed;
 use translate_notes::NOTES;
-use translate_notes::made::note;
+use translate_notes::note;
 
 // `task` BODY `end`, where so many are left; nothing where the text has stopped. Its end is noted as a stop.
 fn read_task(

@@ -10,17 +10,17 @@ use Rattle.machine_moves.proofs.apply.Tie as tie
 use Rattle.machine_moves.proofs.apply.Reads as reads
 use Rattle.machine_moves.proofs.apply.Lts as lts
 use Rattle.machine_moves.proofs.append.Reads as append-reads
-use Rattle.machine_moves.proofs.branch.Reads as branch-reads
-use Rattle.machine_moves.proofs.drain.Reads as drain-reads
-use Rattle.machine_moves.proofs.end.Reads as end-reads
-use Rattle.machine_moves.proofs.fail.Reads as fail-reads
+use Rattle.machine_alone.proofs.branch.Reads as branch-reads
+use Rattle.machine_alone.proofs.drain.Reads as drain-reads
+use Rattle.machine_alone.proofs.end.Reads as end-reads
+use Rattle.machine_alone.proofs.fail.Reads as fail-reads
 use Rattle.machine_moves.proofs.hand.Reads as hand-reads
-use Rattle.machine_moves.proofs.lap.Reads as lap-reads
+use Rattle.machine_alone.proofs.lap.Reads as lap-reads
 use Rattle.machine_moves.proofs.receive.Reads as receive-reads
 use Rattle.machine_moves.proofs.refill.Reads as refill-reads
-use Rattle.machine_moves.proofs.shut.Reads as shut-reads
+use Rattle.machine_shut.proofs.shut.Reads as shut-reads
 use Rattle.machine_moves.proofs.take.Reads as take-reads
-use Rattle.machine_moves.proofs.wait.Reads as wait-reads
+use Rattle.machine_alone.proofs.wait.Reads as wait-reads
 
 enum-known-p : tie.Need-enum-known-p
 enum-known-p c = search needs

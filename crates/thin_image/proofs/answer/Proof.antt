@@ -32,8 +32,8 @@ use denote.Exit.{yes}
 use Rattle.thin_image.specs.Kinds.{Opened}
 use Rattle.thin_image.proofs.Opened as T
 use Rattle.thin_image.proofs.Opened.Laws as T′
-use Rattle.thin_image.proofs.Held as K
-use Rattle.thin_image.proofs.Held.Laws as K′
+use Rattle.thin_held.proofs.Held as K
+use Rattle.thin_held.proofs.Held.Laws as K′
 use Rattle.image_check.proofs.Checked as S
 use Rattle.image_check.proofs.Checked.Laws as S′
 use Rattle.thin_image.proofs.answer.Key.{name as #f}

@@ -43,7 +43,8 @@ use denote.Triple.Walked.{says, Stays, stay-none, stay-none-slice, walkOf, goes-
 use denote.Exit.{yes}
 use denote.Triple.Clauses.{ensured, lasts}
 use Rattle.image_check.specs.Check.{checked}
-use Rattle.thin_image.specs.Asked.{heldOf, openedOf, rowAsked, capacityAsked, firstRowAsked, rowOf, capacityOf, firstRowOf, answersOf}
+use Rattle.thin_held.specs.Asked.{heldOf, rowAsked, capacityAsked, firstRowAsked, rowOf, capacityOf, firstRowOf}
+use Rattle.thin_image.specs.Opened.{openedOf, answersOf}
 use Rattle.thin_image.specs.Kinds.{Row, Chan, Task, Checked, RowAnswer, CapacityAnswer, FirstRowAnswer, Answers, Opened}
 use Rattle.meaning.proofs.Row as N
 use Rattle.meaning.proofs.Row.Laws as N′
@@ -56,12 +57,12 @@ use Rattle.thin_image.proofs.Opened as T
 use Rattle.thin_image.proofs.Opened.Laws as T′
 use Rattle.image_check.proofs.Checked as S₁
 use Rattle.image_check.proofs.Checked.Laws as S₁′
-use Rattle.thin_image.proofs.RowAnswer as S₂
-use Rattle.thin_image.proofs.RowAnswer.Laws as S₂′
-use Rattle.thin_image.proofs.CapacityAnswer as S₃
-use Rattle.thin_image.proofs.CapacityAnswer.Laws as S₃′
-use Rattle.thin_image.proofs.FirstRowAnswer as S₄
-use Rattle.thin_image.proofs.FirstRowAnswer.Laws as S₄′
+use Rattle.thin_held.proofs.RowAnswer as S₂
+use Rattle.thin_held.proofs.RowAnswer.Laws as S₂′
+use Rattle.thin_held.proofs.CapacityAnswer as S₃
+use Rattle.thin_held.proofs.CapacityAnswer.Laws as S₃′
+use Rattle.thin_held.proofs.FirstRowAnswer as S₄
+use Rattle.thin_held.proofs.FirstRowAnswer.Laws as S₄′
 use Rattle.thin_image.proofs.Answers as R
 use Rattle.thin_image.proofs.Answers.Laws as R′
 use Rattle.thin_image.proofs.open as opening

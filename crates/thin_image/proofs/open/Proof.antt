@@ -40,16 +40,16 @@ use denote.Triple.Table.{entered, cited}
 use denote.Triple.Walked.{says, Stays, stay-none-slice, walkOf, goes-none-slice, Walks, ends-at, walked, walk-meets}
 use denote.Exit.{yes}
 use denote.Triple.Clauses.{ensured, lasts}
-use Rattle.thin_image.specs.Asked.{heldOf}
+use Rattle.thin_held.specs.Asked.{heldOf}
 use Rattle.thin_image.specs.Kinds.{Opened, Held}
 use Rattle.thin_image.proofs.Opened as T
 use Rattle.thin_image.proofs.Opened.Laws as T′
-use Rattle.thin_image.proofs.Held as K
-use Rattle.thin_image.proofs.Held.Laws as K′
-use Rattle.thin_image.proofs.ask.hold as hold
-use Rattle.thin_image.proofs.ask.hold.Symbol as hold-def
-use Rattle.thin_image.proofs.ask.hold.Symbol.{name as #hold}
-use Rattle.thin_image.proofs.ask.hold.Met as hold-thm
+use Rattle.thin_held.proofs.Held as K
+use Rattle.thin_held.proofs.Held.Laws as K′
+use Rattle.thin_held.proofs.hold as hold
+use Rattle.thin_held.proofs.hold.Symbol as hold-def
+use Rattle.thin_held.proofs.hold.Symbol.{name as #hold}
+use Rattle.thin_held.proofs.hold.Met as hold-thm
 use Rattle.thin_image.proofs.open.Key.{name as #f}
 use Rattle.thin_image.proofs.open as f
 use Rattle.thin_image.proofs.open.Statement as stated
@@ -161,4 +161,4 @@ open-spec 𝓤 H 𝓜 𝓖 𝓡 =
     entered 𝓤 H (tripleOf 𝓤 H (𝓖 .A) f.signature (f.spec 𝓤 H (𝓖 .A) (𝓜 .mem) (𝓡 .run)))
     (tables 𝓤 H 𝓜 𝓡 code.env .C) (tables 𝓤 H 𝓜 𝓡 code.env .Λ) #f code.function (code.unfolded 𝓤 H 𝓜 𝓡)
     (f-meets 𝓤 H (𝓖 .A) (givenOf 𝓤 H 𝓜 𝓖) (𝓜 .mem) (𝓡 .run) (tablesOf 𝓤 H 𝓜 (tables 𝓤 H 𝓜 𝓡 code.env))
-    (cited 𝓤 H (Hold 𝓤 H (𝓖 .A) (𝓜 .mem) (𝓡 .run)) 𝓜 𝓡 code.env #hold hold-def.routine code.calls-thin-image·ask·hold (hold-thm.met 𝓤 H 𝓜 𝓖 𝓡)))
+    (cited 𝓤 H (Hold 𝓤 H (𝓖 .A) (𝓜 .mem) (𝓡 .run)) 𝓜 𝓡 code.env #hold hold-def.routine code.calls-thin-held·hold (hold-thm.met 𝓤 H 𝓜 𝓖 𝓡)))

@@ -14,7 +14,7 @@ use Rattle.meaning.specs.Bytes.{fieldsOf}
 use Rattle.image_rows.specs.Rows.{fieldsPut, rowPut}
 use Rattle.image_laws.specs.laws.Rows.{caseRows-length, rowsS-length, rowsB-length, positive}
 use Rattle.translate_notes.specs.Notes.{opCode, opPort, opArg, lastArg, opS, chanS, argS, insideS, notesS, notesB, notesC}
-use Rattle.translate_notes.specs.Rows.{firstOf, leadsTo, selectFields, rowFields, noteFields, caseFields}
+use Rattle.translate_fields.specs.Rows.{firstOf, leadsTo, selectFields, rowFields, noteFields, caseFields}
 use Rattle.translate_notes.specs.laws.Notes.{inside-length, notesB-length}
 use Rattle.translate_rows.specs.RowsPut.{rowsPut}
 use Rattle.translate_rows.specs.Stored.{Held, StmtHeld, BodyHeld, CasesHeld, StmtThere, BodyThere, BodiesThere, CasesThere}

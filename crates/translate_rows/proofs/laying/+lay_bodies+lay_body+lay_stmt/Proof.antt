@@ -21,8 +21,8 @@ use Rattle.translate_rows.proofs.laying.+lay_bodies+lay_body+lay_stmt.L
 use Rattle.translate_rows.proofs.laying.lay_stmt.Reads as lay-stmt
 use Rattle.translate_rows.proofs.laying.lay_stmt.Kinds as lay-stmt-kinds
 use Rattle.translate_rows.proofs.laying.+lay_bodies+lay_body+lay_stmt.Lts-lay_stmt as lay-stmt-lts
-use Rattle.translate_notes.proofs.rows.leads_to.Reads as leads-to-reads
-use Rattle.translate_notes.proofs.rows.put_statement.Reads as put-statement-reads
+use Rattle.translate_fields.proofs.leads_to.Reads as leads-to-reads
+use Rattle.translate_fields.proofs.put_statement.Reads as put-statement-reads
 use Rattle.translate_rows.proofs.laying.following.Reads as following-reads
 use Rattle.translate_rows.proofs.laying.lay_cases.Reads as lay-cases-reads
 use Rattle.translate_rows.proofs.laying.+lay_bodies+lay_body+lay_stmt.{statement}

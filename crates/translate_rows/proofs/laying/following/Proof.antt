@@ -1,5 +1,5 @@
 use borrow.Author.Tests.{lt-ltb, le-ltb}
-use Rattle.translate_notes.specs.Rows.{firstOf}
+use Rattle.translate_fields.specs.Rows.{firstOf}
 use Rattle.translate_rows.proofs.laying.following.Statement.{statement}
 use Rattle.translate_rows.proofs.laying.following.Tie as tie
 

@@ -48,15 +48,15 @@ use Rattle.translate_rows.proofs.reading.read_stmt.Reads as read-stmt
 use Rattle.translate_rows.proofs.reading.read_stmt.Kinds as read-stmt-kinds
 use Rattle.translate_rows.proofs.reading.+read_block+read_body+read_case+read_cases+read_ifok+read_last+read_second+read_select+read_stmt.Lts-read_stmt as read-stmt-lts
 use Rattle.meaning.proofs.port_number.Reads as port-number-reads
-use Rattle.text_blocks.proofs.blocks.read_case_head.Reads as read-case-head-reads
-use Rattle.text_blocks.proofs.blocks.read_end.Reads as read-end-reads
-use Rattle.text_reader.proofs.heads.read_head.Reads as read-head-reads
+use Rattle.text_blocks.proofs.read_case_head.Reads as read-case-head-reads
+use Rattle.text_blocks.proofs.read_end.Reads as read-end-reads
+use Rattle.text_heads.proofs.read_head.Reads as read-head-reads
 use Rattle.text_words.proofs.word_at.Reads as word-at-reads
-use Rattle.translate_notes.proofs.made.case_head.Reads as case-head-reads
-use Rattle.translate_notes.proofs.made.head_of.Reads as head-of-reads
-use Rattle.translate_notes.proofs.made.note.Reads as note-reads
-use Rattle.translate_notes.proofs.made.op_arg.Reads as op-arg-reads
-use Rattle.translate_notes.proofs.made.op_head.Reads as op-head-reads
+use Rattle.translate_notes.proofs.case_head.Reads as case-head-reads
+use Rattle.translate_notes.proofs.head_of.Reads as head-of-reads
+use Rattle.translate_notes.proofs.note.Reads as note-reads
+use Rattle.translate_notes.proofs.op_arg.Reads as op-arg-reads
+use Rattle.translate_notes.proofs.op_head.Reads as op-head-reads
 use Rattle.translate_rows.proofs.reading.+read_block+read_body+read_case+read_cases+read_ifok+read_last+read_second+read_select+read_stmt.{
   statement,
 }

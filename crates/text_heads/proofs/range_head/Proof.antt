@@ -1,0 +1,16 @@
+use borrow.Author.Needs.{needs}
+use Rattle.text_reader.specs.Answers.{portPart, headOf}
+use Rattle.text_heads.proofs.range_head.Statement.{statement}
+use Rattle.text_heads.proofs.range_head.Tie as tie
+
+returns : tie.Need-returns
+unfolding headOf portPart
+returns c = rw (c .before .before .before .read-port .ensures 0, c .before .why .given .1)
+
+returns-2 : tie.Need-returns-2
+unfolding headOf portPart
+returns-2 c = rw (c .before .before .before .read-port .ensures 0, c .before .p .given .1)
+
+pub range-head-spec : {M : Type 1} → statement M
+range-head-spec =
+    tie.close (tie.spec (λ c κs. search needs) (λ c. search needs) (λ c. search needs) returns returns-2)
