@@ -2,9 +2,10 @@
 use mathlib.Core.Path.{_≡_, refl}
 use mathlib.Core.List.{List, [], _∷_, map}
 use Prim.Native.Nat.{ℕ}
+use lib.ListN.{replicate}
 use Rattle.events.specs.Kinds.{Task, Event, Appended, Refilled, Faulted, Refused, Nil}
 use Rattle.meaning.specs.Events.{numbers}
-use Rattle.events.specs.Record.{eventRecord}
+use Rattle.events.specs.Record.{eventRecord, recordPut}
 
 recordsOf : List (Task × Event) → List (List ℕ)
 recordsOf = map (λ p. eventRecord (p .0) (numbers (p .1)))
@@ -28,3 +29,11 @@ records =
 examples-hold : recordsOf turns ≡ records
 unfolding recordsOf turns records numbers
 examples-hold = refl
+
+-- A record at a place: with just the room, with a byte ahead of it, and one byte short, where nothing is put.
+putAt : ℕ → ℕ → List ℕ
+putAt size at = recordPut (replicate size 238) at (record { 0 = 1 }) (numbers (Appended (record { 0 = 2 }) 772))
+
+puts-hold : putAt 6 0 ∷ putAt 7 1 ∷ putAt 6 1 ∷ [] ≡ (1 ∷ 1 ∷ 2 ∷ 4 ∷ 3 ∷ 255 ∷ []) ∷ (238 ∷ 1 ∷ 1 ∷ 2 ∷ 4 ∷ 3 ∷ 255 ∷ []) ∷ (238 ∷ 238 ∷ 238 ∷ 238 ∷ 238 ∷ 238 ∷ []) ∷ []
+unfolding putAt recordPut numbers
+puts-hold = refl
