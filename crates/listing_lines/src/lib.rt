@@ -4,6 +4,7 @@ ghost use mathlib.Core.List.{_++_, _∷_, []};
 ghost use Prim.Native.Nat.{_+_, _*_, _≤_, _<_, min};
 ghost use lib.ListN.{length};
 ghost use Rattle.meaning.specs.Events.{numbers};
+ghost use Rattle.meaning.specs.Numbers.{capacityLimit};
 ghost use Rattle.listing_lines.specs.Lines.{lineSize, Blank, Adds, Shows, decimalOf, spaced, lineOf, flag, statusNumber, refusedLine, turnLine, taskLine, chanLine, stampLine, badScheduleLine, tooLongLine};
 use events::event_numbers;
 use machine_records::ChanState;
@@ -12,6 +13,7 @@ use meaning::Chan;
 use meaning::Event;
 use meaning::Status;
 use meaning::Task;
+use meaning::sizes::CELLS;
 
 // A line: the first `len` of its bytes, newline included, with zeros behind. The longest is a channel's: a word of four bytes,
 // nineteen numbers of up to five digits, each behind a blank, and the newline.
@@ -154,20 +156,24 @@ pub fn task_line(task: Task, x: TaskState) -> Line
     named_line(b"task", &ns)
 }
 
-// Channel, closed, length, values oldest first. A length over sixteen prints sixteen values.
-pub fn chan_line(chan: Chan, x: ChanState, values: [u16; 16]) -> Line
+// Channel, closed, length, values oldest first. A length over what a channel can hold prints all that it can hold.
+pub fn chan_line(chan: Chan, x: ChanState, values: [u16; CELLS as usize]) -> Line
     ensures { λ r. ⌜ Shows r (chanLine chan x values) ⌝ }
 {
     let ns = [chan.0 as u16, flag_of(x.closed), x.len as u16];
     let head = with_numbers(with_word(blank_line(), b"chan"), &ns);
-    let n = at_most_16(x.len);
+    let n = values_shown(x.len);
     ended(head, &values[..n])
 }
 
-fn at_most_16(n: u8) -> usize
-    ensures { λ r. ⌜ r ≡ min 16 n ⌝ }
+fn values_shown(len: u8) -> usize
+    ensures { λ r. ⌜ r ≡ min capacityLimit len ⌝ }
 {
-    if n < 16 { n as usize } else { 16 }
+    if len < CELLS {
+        len as usize
+    } else {
+        CELLS as usize
+    }
 }
 
 pub fn stamp_line(stamp: u16, fault: u8) -> Line

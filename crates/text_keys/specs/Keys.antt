@@ -25,12 +25,17 @@ unfoldable pub firstFrom : (ℕ → Bool) → ℕ → ℕ → ℕ
 firstFrom p zero k = k
 firstFrom p (suc n) k = cond (p k) k (firstFrom p n (k + 1))
 
--- Sixteen words, each known by its key and its size: the place of the first with a key, if it has the size n, and 16 otherwise.
+-- "The sixteen reserved words"
+abbrev pub places : ℕ
+places = 16
+
+-- So many words, each known by its key and its size: the place of the first with a key, if it has the size n, and the number behind
+-- the last place otherwise.
 abbrev pub keyed : (ℕ → ℕ) → ℕ → ℕ → Bool
 keyed keys key k = eqb key (keys k)
 
 unfoldable pub searched : (ℕ → ℕ) → (ℕ → ℕ) → ℕ → ℕ → ℕ
-searched keys sizes key n = cond (eqb n (sizes (firstFrom (keyed keys key) 16 0))) (firstFrom (keyed keys key) 16 0) 16
+searched keys sizes key n = cond (eqb n (sizes (firstFrom (keyed keys key) places 0))) (firstFrom (keyed keys key) places 0) places
 
 -- The words of a table: rows of eight bytes, and how many of the eight count.
 abbrev pub rowKey : List (List ℕ) → List ℕ → ℕ → ℕ
@@ -41,7 +46,3 @@ rowSize lengths k = getD lengths k 0
 
 unfoldable pub placeIn : List (List ℕ) → List ℕ → ℕ → ℕ → ℕ
 placeIn words lengths key n = searched (rowKey words lengths) (rowSize lengths) key n
-
--- Every row has a byte that counts.
-pub record Sized (lengths : List ℕ) : Type 0 where
-  pub size : (k : ℕ) → k < 16 → (0 < getD lengths k 0) × (getD lengths k 0 ≤ 8)

@@ -9,7 +9,7 @@ use borrow.Author.Tests.{eqb-true, leb-true, ltb-true, ltb-false}
 use lib.Dec.{eqb, leb, ltb}
 use lib.ListN.{length, getD, take, drop}
 use Rattle.meaning.specs.laws.Tests.{both, cond-all}
-use Rattle.text_keys.specs.Keys.{keyMore, gathered, keyOf, firstFrom, searched, rowKey, rowSize, placeIn, Sized}
+use Rattle.text_keys.specs.Keys.{keyMore, gathered, keyOf, firstFrom, searched, rowKey, rowSize, placeIn}
 use Rattle.text_keys.specs.laws.Keys.{Bytes, same-key, searched-found, searched-same}
 use Rattle.text_words.specs.Words.{inWord, run, reserved, placeOf, isNumber, otherKind, kindOf}
 use Rattle.text_words.specs.Scan.{bytesFrom, endsAt, lettersFrom, wordKey, wordSize, kindBy}
@@ -99,9 +99,6 @@ goodSize lengths k = eqb (rowSize lengths k) (wordSize k)
 module _ (lengths : List ℕ) (sizes : below (goodSize lengths) 17 ≡ true) where
   same-size : (k : ℕ) → k < 17 → rowSize lengths k ≡ wordSize k
   same-size k h = eqb-true (rowSize lengths k) (wordSize k) (at-each (goodSize lengths) 17 sizes k h)
-
-  pub table-sized : Sized lengths
-  table-sized = record { size = λ k h. rw (same-size k (omega arith)) (word-size k h) }
 
   pub table-place : (words : List (List ℕ)) → below (goodKey words lengths) 16 ≡ true → (key n : ℕ)
       → placeIn words lengths key n ≡ searched wordKey wordSize key n

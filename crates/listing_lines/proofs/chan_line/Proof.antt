@@ -12,13 +12,13 @@ slice-aggregate-ended : tie.Need-slice-aggregate-ended
 slice-aggregate-ended c =
     let a = c .before .before .before .before .before .before .before .before .before .before .args in
     let e : length (a .t3) ≡ 16 = search (needs, length-mapped) in
-    omega (arith, length-take (c .before .at-most-16 .result) (a .t3))
+    omega (arith, length-take (c .before .values-shown .result) (a .t3))
 
 ended-requires : tie.Need-ended-requires
 ended-requires c κs =
     let a = c .before .before .before .before .before .before .before .before .before .before .args in
     let e : length (a .t3) ≡ 16 = search (needs, length-mapped) in
-    omega (arith, length-take (c .before .at-most-16 .result) (a .t3))
+    omega (arith, length-take (c .before .values-shown .result) (a .t3))
 
 returns : tie.Need-returns
 unfolding chanLine
@@ -26,7 +26,7 @@ returns c =
     let a = c .before .before .before .before .before .before .before .before .before .before .before .args in
     let e : length (a .t3) ≡ 16 = search (needs, length-mapped) in
     let s = shows-line _ _ _ _ _ (c .before .before .before .before .before .before .before .blank-line .ensures) (adds-more _ _ _ _ _ (c .before .before .before .before .before .with-word .ensures) (c .before .before .before .with-numbers .ensures .0)) (c .ended .ensures) in
-    let v : take (c .before .before .at-most-16 .result) (a .t3) ≡ take (a .x .len) (a .t3) = rw (c .before .before .at-most-16 .ensures) (take-most (a .x .len) (a .t3) e) in
+    let v : take (c .before .before .values-shown .result) (a .t3) ≡ take (a .x .len) (a .t3) = rw (c .before .before .values-shown .ensures) (take-most (a .x .len) (a .t3) e) in
     rw (← c .before .before .before .before .before .before .before .before .before .flag-of .ensures, ← v) (s .0, s .1 ∙ line-append _ _ _, s .2)
 
 pub chan-line-spec : {M : Type 1} → statement M

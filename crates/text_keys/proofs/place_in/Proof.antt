@@ -14,28 +14,24 @@ Inv-loop key n words lengths k₀ k = (k ≤ 16) × (foundFrom (rowKey words len
 abbrev μ-loop : tie.MeasureT-loop
 μ-loop key n words lengths k₀ k = 16 - k
 
-cast-if2 : tie.Need-cast-if2 Inv-loop μ-loop
-cast-if2 c =
-    let s = c .before .before .before .before .before in
-    omega (arith, s .pre .size (c .before .before .before .before .loop .k) (c .before .before .before .loop-test .taken))
-
 returns : tie.Need-returns Inv-loop μ-loop
 unfolding placeIn
 returns c =
-    let l = c .before .before .before .before .before .loop in
-    let h = c .before .before .before .before .loop-test .taken in
-    let a = c .before .before .before .before .before .before .args in
-    let e = c .before .if1 .taken ∙ c .before .before .key-of .ensures in
-    rw (search-found (rowKey (a .t1) (a .t2)) (a .key) (l .k) (rowSize (a .t2)) (a .length) (l .inv .1) h e, eq-eqb _ _ (c .if2 .taken))
+    let l = c .before .before .before .before .before .before .loop in
+    let h = c .before .before .before .before .before .loop-test .taken in
+    let a = c .before .before .before .before .before .before .before .args in
+    let e = c .before .before .if1 .taken ∙ c .before .before .before .key-of .ensures in
+    let same = c .if2 .taken ∙ c .before .wide .ensures in
+    rw (search-found (rowKey (a .t1) (a .t2)) (a .key) (l .k) (rowSize (a .t2)) (a .length) (l .inv .1) h e, eq-eqb _ _ same)
 
 returns-2 : tie.Need-returns-2 Inv-loop μ-loop
 unfolding placeIn
 returns-2 c =
-    let l = c .before .before .before .before .before .loop in
-    let h = c .before .before .before .before .loop-test .taken in
-    let a = c .before .before .before .before .before .before .args in
-    let e = c .before .if1 .taken ∙ c .before .before .key-of .ensures in
-    rw (search-found (rowKey (a .t1) (a .t2)) (a .key) (l .k) (rowSize (a .t2)) (a .length) (l .inv .1) h e, ne-eqb _ _ (c .if2 .left))
+    let l = c .before .before .before .before .before .before .loop in
+    let h = c .before .before .before .before .before .loop-test .taken in
+    let a = c .before .before .before .before .before .before .before .args in
+    let e = c .before .before .if1 .taken ∙ c .before .before .before .key-of .ensures in
+    rw (search-found (rowKey (a .t1) (a .t2)) (a .key) (l .k) (rowSize (a .t2)) (a .length) (l .inv .1) h e, ne-eqb (a .length) (rowSize (a .t2) (l .k)) (λ z. c .if2 .left (z ∙ sym (c .before .wide .ensures))))
 
 loop-again : tie.Need-loop-again Inv-loop μ-loop
 loop-again c =
@@ -63,8 +59,8 @@ place-in-spec =
     (λ c. search needs)
     (λ c. search needs)
     (λ c. search needs)
-    (λ c κs. c .before .before .before .pre .size (c .before .before .loop .k) (c .before .loop-test .taken))
-    cast-if2
+    (λ c κs. search needs)
+    (λ c κs. search needs)
     returns
     returns-2
     (λ c. search needs)

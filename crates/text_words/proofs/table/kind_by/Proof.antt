@@ -4,13 +4,9 @@ use borrow.Author.Tests.{lt-ltb, le-ltb}
 use Rattle.text_keys.specs.Keys.{gathered}
 use Rattle.text_words.specs.Words.{reserved}
 use Rattle.text_words.specs.Scan.{kindBy}
-use Rattle.text_words.proofs.Keys.{table-sized, table-place}
+use Rattle.text_words.proofs.Keys.{table-place}
 use Rattle.text_words.proofs.table.kind_by.Statement.{statement}
 use Rattle.text_words.proofs.table.kind_by.Tie as tie
-
-place-in-requires : tie.Need-place-in-requires
-unfolding reserved
-place-in-requires c κs = table-sized _ refl
 
 returns : tie.Need-returns
 unfolding kindBy reserved gathered
@@ -28,7 +24,7 @@ pub kind-by-spec : {M : Type 1} → statement M
 kind-by-spec =
     tie.close
     (tie.spec
-    place-in-requires
+    (λ c κs. search needs)
     (λ c. search needs)
     returns
     returns-2)
