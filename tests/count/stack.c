@@ -1,4 +1,4 @@
-/* Bytes of stack of one translation, one image check and one turn: each is called on a painted stack of its own, and what is no
+/* Bytes of stack of one translation, one image check, one turn and one schedule: each is called on a painted stack of its own, and what is no
    longer paint is counted, less what a call that does nothing needs. */
 #include "images.h"
 #include "say.h"
@@ -8,11 +8,14 @@
 size_t bench_translate(const uint8_t *text, size_t n, uint8_t *image, size_t image_n);
 uint32_t bench_check(const uint8_t *image, size_t n);
 uint16_t bench_rounds(const uint8_t *image, size_t n, const uint8_t *pairs, size_t pairs_n, uint8_t way, uint8_t task, uint8_t choice, uint32_t rounds);
-static const uint8_t none[1];
+uint8_t bench_schedule(const uint8_t *image, size_t n, const uint8_t *pairs, size_t pairs_n, uint8_t *records, size_t room);
+static const uint8_t none[1], there_and_back[4] = {0, 0, 1, 0};
+static uint8_t records[12];
 
 static void nothing(void) { __asm__ volatile(""); }
 static void translation(void) { bench_translate(text, text_size, image_out, sizeof image_out); }
 static void image_check(void) { bench_check(pass, sizeof pass); }
+static void whole_schedule(void) { bench_schedule(pass, sizeof pass, there_and_back, sizeof there_and_back, records, sizeof records); }
 static void whole_turn(void) { bench_rounds(pass, sizeof pass, none, 0, 2, 0, 0, 1); }
 
 static size_t used(void (*f)(void)) {
@@ -39,5 +42,6 @@ int main(void) {
     say("translation of the listing's job: ", used(translation) - base);
     say("image check: ", used(image_check) - base);
     say("start and whole turn: ", used(whole_turn) - base);
+    say("start and schedule of two turns: ", used(whole_schedule) - base);
     return 0;
 }
