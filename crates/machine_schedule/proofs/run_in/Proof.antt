@@ -1,6 +1,5 @@
-use mathlib.Core.Path.{_≡_, sym, ap, subst, _∙_}
-use mathlib.Core.List.{List}
-use Prim.Native.Nat.{ℕ, _+_, _*_, _-_, _%_, _≤_, _<_}
+use mathlib.Core.Path.{_≡_, ap, _∙_}
+use Prim.Native.Nat.{_+_, _-_, _%_, _≤_, _<_}
 use native.Mathlib.Omega.{arith}
 use lib.ListN.{length, getD}
 use denote.Ref.{now}
@@ -23,35 +22,64 @@ abbrev μ-loop : tie.MeasureT-loop
 
 loop-holds : tie.Need-loop-holds Inv-loop μ-loop
 loop-holds c =
-    let a = c .before .before .before .before .before .before .args in
-    (search needs, (search needs, ahead-begin (now (a .image)) (now (a .words)) (now (a .cells)) (now (a .values)) (now (a .pairs)) (now (a .records)) (c .before .before .before .before .before .before .pre)))
+    let entry = c .before .before .before .before .before .before in
+    let a = entry .args in
+    let begun = ahead-begin (now (a .image)) (now (a .words)) (now (a .cells)) (now (a .values)) (now (a .pairs)) (now (a .records)) (entry .pre) in
+    (search needs, (search needs, begun))
 
+-- A pair has two bytes, and so many have room for their records.
 second-there : tie.Need-shared-slice-read-choice-2 Inv-loop μ-loop
-second-there c = omega (arith, c .before .before .loop-test .taken, c .before .before .before .loop .inv .1 .0, c .before .before .before .before .before .before .before .before .before .before .pre .even)
+second-there c =
+    let lap = c .before .before in
+    let entry = lap .before .before .before .before .before .before .before .before in
+    omega (arith, lap .loop-test .taken, lap .before .loop .inv .1 .0, entry .pre .even)
 
 place-fits : tie.Need-mul-put-record Inv-loop μ-loop
-place-fits c = let p = c .before .before .before .before .before .before .before .before .before .before .before .before .before .before .before .before .before .before .before .before .before .pre in omega (arith, c .before .before .before .before .before .before .before .before .before .before .before .before .before .loop-test .taken, p .room, c .before .before .before .before .before .before .before .before .before .before .before .before .before .before .before .before .before .before .before .before .before .good .1 .1 .1 .1 .1 .0)
+place-fits c =
+    let step = c .before .before .before .before .before .before .before in
+    let lap = step .before .before .before .before .before .before in
+    let entry = lap .before .before .before .before .before .before .before .before in
+    omega (arith, lap .loop-test .taken, entry .pre .room, entry .good .1 .1 .1 .1 .1 .0)
 
 next-fits : tie.Need-add-i Inv-loop μ-loop
-next-fits c = omega (arith, c .before .before .before .before .before .before .before .before .before .before .before .before .before .before .before .before .loop-test .taken, c .before .before .before .before .before .before .before .before .before .before .before .before .before .before .before .before .before .before .before .before .before .before .before .before .good .1 .1 .1 .1 .0 .1)
+next-fits c =
+    let step = c .before .before .before .before .before .before .before .before .before .before in
+    let lap = step .before .before .before .before .before .before in
+    let entry = lap .before .before .before .before .before .before .before .before in
+    omega (arith, lap .loop-test .taken, entry .good .1 .1 .1 .1 .0 .1)
 
 loop-again : tie.Need-loop-again Inv-loop μ-loop
 unfolding countsOf
 loop-again c =
-    let a = c .before .before .before .before .before .before .before .before .before .before .before .before .before .before .before .before .before .before .before .before .before .before .before .before .args in
-    let ready = c .before .before .before .before .before .before .before .before .before .before .before .before .before .before .before .before .before .before .before .before .before .before .before .before .pre in
-    let l = c .before .before .before .before .before .before .before .before .before .before .before .before .before .before .before .before .before .loop in
+    let put = c .before .before in
+    let store = put .before .before in
+    let cells = store .before .before in
+    let words = cells .before .before in
+    let stepped-at = words .before .before in
+    let lap = stepped-at .before .before .before .before .before .before in
+    let counted = lap .before .before in
+    let entry = counted .before .before .before .before .before .before in
+    let a = entry .args in
     let bs = now (a .image) in
-    let body = c .before .before .before .before .before .before .before .before .before .before .before .before .before .before .before .before .before .before .before .before .body-of .ensures in
-    let counts = c .before .before .before .before .before .before .before .before .before .before .before .before .before .before .before .before .before .before .counts-in .ensures in
-    let rows : c .before .before .before .before .before .before .before .before .before .before .before .before .before .before .before .before .before .before .counts-in .result ≡ countsOf bs = counts ∙ ap countsIn (c .before .before .before .before .before .before .before .before .before .before .before .before .before .before .before .before .before .before .before .trailer-of .ensures) in
-    let step = c .before .before .before .before .before .before .before .before .before .before .step-in in
-    let words = c .before .before .before .before .before .before .before .before .words-size .ensures in
-    let cells = c .before .before .before .before .before .before .cells-size .ensures in
+    let ps = now (a .pairs) in
+    let l = lap .before .loop in
     let i = l .i in
-    let more : i + 1 < length (now (a .pairs)) = omega (arith, c .before .before .before .before .before .before .before .before .before .before .before .before .before .before .before .before .loop-test .taken, l .inv .1 .0, ready .even) in
-    let made : MadeTurn (l .words) (l .cells) (step .last .1 .1 .0) (step .last .1 .1 .1 .0) (step .result) (λ z. stepped (bodyOf bs) (countsOf bs .rows) z (l .values) (taskNo (getD (now (a .pairs)) i 0)) (getD (now (a .pairs)) (i + 1) 0)) = rw (← body, ← rows) (step .ensures) in
-    (omega (arith, more), (omega (arith, l .inv .1 .0), ahead-lap _ _ _ _ _ _ (ready .good) (l .words) (l .cells) (l .values) (l .records) i (l .inv .1 .1) more _ _ words cells (step .result) made (ready .room) _ (c .before .before .before .before .store-in .ensures) _ (c .before .before .put-record .ensures)))
+    let step = stepped-at .step-in in
+    let body = counted .before .before .body-of .ensures in
+    let counts : counted .counts-in .result ≡ countsOf bs = counted .counts-in .ensures ∙ ap countsIn (counted .before .trailer-of .ensures) in
+    let more : i + 1 < length ps = omega (arith, lap .loop-test .taken, l .inv .1 .0, entry .pre .even) in
+    let made : MadeTurn (l .words) (l .cells) (step .last .1 .1 .0) (step .last .1 .1 .1 .0) (step .result)
+    (λ z. stepped (bodyOf bs) (countsOf bs .rows) z (l .values) (taskNo (getD ps i 0)) (getD ps (i + 1) 0))
+    = rw (← body, ← counts) (step .ensures) in
+    let turn = ahead-lap _ _ _ _ _ _ (entry .pre .good) (l .words) (l .cells) (l .values) (l .records) i (l .inv .1 .1) more _ _ in
+    let ahead = turn (words .words-size .ensures) (cells .cells-size .ensures) (step .result) made in
+    (omega (arith, more), (omega (arith, l .inv .1 .0), ahead (entry .pre .room) _ (store .store-in .ensures) _ (put .put-record .ensures)))
+
+returns : tie.Need-returns Inv-loop μ-loop
+returns c =
+    let l = c .before .loop in
+    let entry = c .before .before .before .before .before .before .before .before in
+    ahead-end _ _ _ _ _ _ (entry .pre .good) (l .words) (l .cells) (l .values) (l .records) (l .i) (l .inv .1 .1) (c .loop-test .left)
 
 pub run-in-spec : {M : Type 1} → statement M
 run-in-spec =
@@ -76,4 +104,4 @@ run-in-spec =
     (λ c. search needs)
     loop-again
     (λ c. c .before .loop .inv .1 .1 .room)
-    (λ c. let l = c .before .loop in ahead-end _ _ _ _ _ _ (c .before .before .before .before .before .before .before .before .pre .good) (l .words) (l .cells) (l .values) (l .records) (l .i) (l .inv .1 .1) (c .loop-test .left)))
+    returns)
