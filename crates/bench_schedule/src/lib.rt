@@ -2,12 +2,12 @@
 // one caller, as in the product. A benchmark and no test; tests/count runs it.
 ghost use mathlib.Core.Path.{_≡_};
 ghost use Rattle.machine.specs.Public.{started, freshValues};
-ghost use Rattle.machine_schedule.specs.Schedule.{decided, recordsAfter};
+ghost use Rattle.machine_turns.specs.Schedule.{decided, recordsAfter};
 ghost use Rattle.bench_schedule.specs.Number.{numberOf};
 use machine::fresh_values;
 use machine::start;
-use machine_schedule::Outcome;
 use machine_schedule::schedule;
+use machine_turns::Outcome;
 
 // A refusal's number; 0 where the turns are made.
 fn number_of(outcome: Outcome) -> u8

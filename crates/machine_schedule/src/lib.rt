@@ -1,8 +1,8 @@
 // A whole schedule in one call (document 02, E1): pairs of task and choice from a slice, a record of six bytes for each turn. The
 // image is checked and the state held to it once, ahead of the first turn; behind that every turn is one step, in place.
 ghost use mathlib.Core.Path.{_≡_};
-ghost use Rattle.machine_schedule.specs.Schedule.{needed, outcomeOf, outcome, scheduled, valuesAfter, recordsAfter};
-ghost use Rattle.machine_schedule.specs.Loop.{Sixteen, stateIn, Ready, Ran};
+ghost use Rattle.machine_turns.specs.Schedule.{outcome, scheduled, valuesAfter, recordsAfter};
+ghost use Rattle.machine_turns.specs.Loop.{Sixteen, stateIn, Ready, Ran};
 use events::put_record;
 use image_check::Checked;
 use image_check::check;
@@ -18,40 +18,12 @@ use machine_store::STATE_WORDS;
 use machine_store::State;
 use machine_store::cells_size;
 use machine_store::words_size;
+use machine_turns::Outcome;
+use machine_turns::Scheduled;
+use machine_turns::outcome_of;
 use meaning::Task;
 use meaning::sizes::CELLS;
 use meaning::sizes::CHANS;
-
-// The refusals ahead of the first turn, behind the image check's own and 17.
-const ODD_PAIRS: u8 = 30;
-
-const RECORDS_SHORT: u8 = 31;
-
-// The longest slice of pairs for whose records a length can be said.
-const LONGEST: usize = 6148914691236517205;
-
-// What a schedule answers: how many bytes of records are written, or a refusal's number and place.
-pub enum Outcome {
-    Done(usize),
-    Refused(u8, usize),
-}
-
-// The answer, and the state behind the last turn.
-pub struct Scheduled {
-    pub outcome: Outcome,
-    pub state: State,
-}
-
-// How many bytes the records of so many bytes of pairs take: six for each pair.
-fn length_needed(pairs: usize) -> usize
-    ensures { λ r. ⌜ r ≡ needed pairs ⌝ }
-{
-    if pairs <= LONGEST {
-        3 * pairs
-    } else {
-        18446744073709551615
-    }
-}
 
 // HOW LARGE THE VALUES ARE: a call says so, which compiles to nothing.
 
@@ -96,20 +68,6 @@ fn run_in(
         put_record(records, 3 * i, task, event);
         i = i + 2;
     }
-}
-
-// Whether so many bytes of pairs are pairs, and their records have room.
-fn outcome_of(pairs: usize, room: usize) -> Outcome
-    ensures { λ r. ⌜ r ≡ outcomeOf pairs room ⌝ }
-{
-    let needed = length_needed(pairs);
-    if pairs % 2 != 0 {
-        return Outcome::Refused(ODD_PAIRS, 0);
-    }
-    if room < needed {
-        return Outcome::Refused(RECORDS_SHORT, needed);
-    }
-    Outcome::Done(needed)
 }
 
 // The answer of a call, decided ahead of the first turn: the image check's own number, 17, 30, 31, or the bytes that its records take.

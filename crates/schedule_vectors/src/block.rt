@@ -17,12 +17,12 @@ use crate::record::values_of;
 use image_check::Checked;
 use machine::fresh_values;
 use machine::start;
-use machine_schedule::Outcome;
-use machine_schedule::Scheduled;
 use machine_schedule::schedule;
 use machine_store::CHAN_COUNT;
 use machine_store::State;
 use machine_store::TASK_COUNT;
+use machine_turns::Outcome;
+use machine_turns::Scheduled;
 use meaning::sizes::CELLS;
 use meaning::sizes::CHANS;
 

@@ -21,8 +21,8 @@ use Rattle.machine_fit.specs.Fitted.{fittingIn}
 use Rattle.machine.specs.Public.{started, freshValues}
 use Rattle.machine.specs.Runs.{turns, seenTurns}
 use Rattle.machine.specs.laws.Reached.{reached-fits, reached-means}
-use Rattle.machine_schedule.specs.Schedule.{eventRecords}
-use Rattle.machine_schedule.specs.laws.Single.{recordsTold, records-told}
+use Rattle.machine_turns.specs.Schedule.{eventRecords}
+use Rattle.machine_turns.specs.laws.Single.{recordsTold, records-told}
 
 -- The events of turns, as they are seen.
 events-of : {P : Type 0} (rs : List (Turned P)) → map (λ r. r .event) rs ≡ map (λ p. p .0) (map seenTurn rs)

@@ -1,6 +1,6 @@
 use mathlib.Core.Path.{ap, _∙_}
 use borrow.Author.Needs.{needs}
-use Rattle.machine_schedule.specs.declared.Scheduled.{Scheduled}
+use Rattle.machine_turns.specs.declared.Scheduled.{Scheduled}
 use Rattle.bench_schedule.specs.Number.{numberOf}
 use Rattle.bench_schedule.proofs.bench_schedule.Statement.{statement}
 use Rattle.bench_schedule.proofs.bench_schedule.Tie as tie

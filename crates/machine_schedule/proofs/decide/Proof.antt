@@ -1,6 +1,6 @@
 use borrow.Author.Needs.{needs}
 use Rattle.image_rows.specs.Rows.{countsOf}
-use Rattle.machine_schedule.specs.Schedule.{outcome}
+use Rattle.machine_turns.specs.Schedule.{outcome}
 use Rattle.machine_schedule.proofs.decide.Statement.{statement}
 use Rattle.machine_schedule.proofs.decide.Tie as tie
 

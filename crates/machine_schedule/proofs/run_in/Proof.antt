@@ -8,7 +8,7 @@ use Rattle.meaning.specs.Bytes.{bodyOf}
 use Rattle.image_rows.specs.Rows.{countsIn, countsOf}
 use Rattle.machine_records.specs.Step.{stepped}
 use Rattle.machine_store.specs.Store.{MadeTurn}
-use Rattle.machine_schedule.specs.laws.Laps.{Ahead, ahead-begin, ahead-lap, ahead-end}
+use Rattle.machine_turns.specs.laws.Laps.{Ahead, ahead-begin, ahead-lap, ahead-end}
 use borrow.Author.Needs.{needs}
 use Rattle.machine_schedule.proofs.run_in.Statement.{statement}
 use Rattle.machine_schedule.proofs.run_in.Tie as tie

@@ -3,7 +3,7 @@ use lib.ListN.{length}
 use denote.Ref.{now}
 use borrow.Author.Tests.{eqb-true}
 use borrow.Author.Needs.{needs}
-use Rattle.machine_schedule.specs.laws.Done.{done-begun, room-for, left-as-it-was, left-turned}
+use Rattle.machine_turns.specs.laws.Done.{done-begun, room-for, left-as-it-was, left-turned}
 use Rattle.machine_schedule.proofs.schedule.Statement.{statement}
 use Rattle.machine_schedule.proofs.schedule.Tie as tie
 

@@ -5,14 +5,14 @@ use mathlib.Core.List.{List, []}
 use Prim.Native.Nat.{ℕ, _*_, _%_, _≤_, _<_}
 use lib.ListN.{length, getD}
 use lib.Seq.{sets}
-use Rattle.machine_schedule.specs.Kinds.{Good, State}
+use Rattle.machine_turns.specs.Kinds.{Good, State}
 use Rattle.meaning.specs.Numbers.{channelLimit, capacityLimit}
 use Rattle.meaning.specs.Bytes.{bodyOf}
 use Rattle.image_rows.specs.Rows.{countsOf}
 use Rattle.image_check.specs.Check.{checked}
 use Rattle.machine_records.specs.Values.{Values}
 use Rattle.machine_fit.specs.Fitted.{fittingIn}
-use Rattle.machine_schedule.specs.Schedule.{pairsOf, stateBehind, valuesBehind, eventRecords}
+use Rattle.machine_turns.specs.Schedule.{pairsOf, stateBehind, valuesBehind, eventRecords}
 
 -- "All buffers together are sixteen rows of sixteen values."
 pub record Sixteen (b : Values) : Type 0 where

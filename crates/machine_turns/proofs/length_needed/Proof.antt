@@ -1,7 +1,7 @@
 use borrow.Author.Tests.{le-leb, lt-leb}
 use borrow.Author.Needs.{needs}
-use Rattle.machine_schedule.proofs.length_needed.Statement.{statement}
-use Rattle.machine_schedule.proofs.length_needed.Tie as tie
+use Rattle.machine_turns.proofs.length_needed.Statement.{statement}
+use Rattle.machine_turns.proofs.length_needed.Tie as tie
 
 returns : tie.Need-returns
 returns c = rw (le-leb _ _ (c .if1 .taken))

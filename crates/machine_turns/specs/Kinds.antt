@@ -7,5 +7,5 @@ pub use Rattle.image_check.specs.declared.Checked.the-variants.{Good}
 pub use Rattle.machine_records.specs.declared.Moved.{Moved}
 pub use Rattle.machine_store.specs.declared.State.{State}
 pub use Rattle.machine.specs.declared.Turned.{Turned}
-pub use Rattle.machine_schedule.specs.declared.Outcome.{Outcome}
-pub use Rattle.machine_schedule.specs.declared.Scheduled.{Scheduled}
+pub use Rattle.machine_turns.specs.declared.Outcome.{Outcome}
+pub use Rattle.machine_turns.specs.declared.Scheduled.{Scheduled}

@@ -7,7 +7,7 @@ use native.Mathlib.Omega.{arith}
 use borrow.Author.Tests.{le-leb}
 use lib.ListN.{length, getD, drop, drop-of-length-le}
 use lib.Seq.{sets, length-sets, drop-cons}
-use Rattle.machine_schedule.specs.Kinds.{Task, Good, Moved, State, Turned}
+use Rattle.machine_turns.specs.Kinds.{Task, Good, Moved, State, Turned}
 use Rattle.meaning.specs.Events.{numbers}
 use Rattle.meaning.specs.Image.{taskNo}
 use Rattle.meaning.specs.Bytes.{bodyOf}
@@ -22,8 +22,8 @@ use Rattle.machine_store.specs.laws.Again.{records-sized}
 use Rattle.machine.specs.Public.{turned}
 use Rattle.machine.specs.laws.Meant.{KeptIn, turned-kept}
 use Rattle.machine.specs.laws.Told.{toldTurn, turned-in-place}
-use Rattle.machine_schedule.specs.Schedule.{pairsOf, stateBehind, valuesBehind, eventRecords}
-use Rattle.machine_schedule.specs.Loop.{Sixteen, stateIn, Ready, Ran}
+use Rattle.machine_turns.specs.Schedule.{pairsOf, stateBehind, valuesBehind, eventRecords}
+use Rattle.machine_turns.specs.Loop.{Sixteen, stateIn, Ready, Ran}
 
 -- The pair at an even place of an even number of bytes.
 pub pairs-lap : (ps : List ℕ) (i : ℕ) → i + 1 < length ps → pairsOf (drop i ps) ≡ (taskNo (getD ps i 0), getD ps (i + 1) 0) ∷ pairsOf (drop (i + 2) ps)

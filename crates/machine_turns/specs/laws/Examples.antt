@@ -3,14 +3,14 @@ use mathlib.Core.Path.{_≡_, refl}
 use mathlib.Core.List.{List, [], _∷_, map}
 use Prim.Native.Nat.{ℕ}
 use lib.ListN.{replicate}
-use Rattle.machine_schedule.specs.Kinds.{Counts, Good, State, Outcome}
+use Rattle.machine_turns.specs.Kinds.{Counts, Good, State, Outcome}
 use Rattle.image_check.specs.declared.Checked.the-variants as check
 use Rattle.meaning.specs.Image.{taskNo}
 use Rattle.meaning.specs.Bytes.{tabulate}
 use Rattle.machine_records.specs.Fitting.{every, fitting}
 use Rattle.machine_store.specs.Store.{recordsIn}
 use Rattle.machine_fit.specs.Fitted.{plainly, fittingIn}
-use Rattle.machine_schedule.specs.Schedule.{pairsOf, outcomeOf, outcomeAfter}
+use Rattle.machine_turns.specs.Schedule.{pairsOf, outcomeOf, outcomeAfter}
 
 calls : List (ℕ × ℕ × Outcome)
 calls =

@@ -6,7 +6,7 @@ use Prim.Native.Nat.{ℕ, _*_, _%_}
 use lib.Dec.{eqb, leb}
 use lib.ListN.{length}
 use lib.Seq.{sets}
-use Rattle.machine_schedule.specs.Kinds.{Task, Counts, Checked, Good, State, Outcome, Scheduled}
+use Rattle.machine_turns.specs.Kinds.{Task, Counts, Checked, Good, State, Outcome, Scheduled}
 use Rattle.image_check.specs.declared.Checked.the-variants as check
 use Rattle.meaning.specs.Numbers.{unfit}
 use Rattle.meaning.specs.Events.{numbers}

@@ -5,13 +5,13 @@ use Prim.Native.Nat.{ℕ, zero, suc, _+_, _*_, _<_}
 use native.Mathlib.Omega.{arith}
 use native.Mathlib.Nat.{le-of-suc-le-suc, not-suc-le-zero}
 use lib.ListN.{length, getD, take, drop}
-use Rattle.machine_schedule.specs.Kinds.{Task, Event, State, Turned}
+use Rattle.machine_turns.specs.Kinds.{Task, Event, State, Turned}
 use Rattle.meaning.specs.Events.{numbers}
 use Rattle.events.specs.Record.{eventRecord}
 use Rattle.machine_records.specs.Values.{Values, changed}
 use Rattle.machine.specs.Public.{turned}
 use Rattle.machine.specs.Runs.{turns, seenTurns}
-use Rattle.machine_schedule.specs.Schedule.{stateBehind, valuesBehind, eventRecords}
+use Rattle.machine_turns.specs.Schedule.{stateBehind, valuesBehind, eventRecords}
 
 -- The records of these turns of these tasks, one behind the other.
 unfoldable pub recordsTold : List (Task × ℕ) → List Event → List ℕ

@@ -8,15 +8,15 @@ use native.Mathlib.Omega.{arith}
 use borrow.Author.Tests.{leb-true, le-leb, lt-leb}
 use lib.Dec.{eqb, leb}
 use lib.Seq.{sets}
-use Rattle.machine_schedule.specs.Kinds.{Checked, Good, State, Outcome}
+use Rattle.machine_turns.specs.Kinds.{Checked, Good, State, Outcome}
 use Rattle.image_check.specs.declared.Checked.the-variants as check
 use Rattle.meaning.specs.Bytes.{bodyOf}
 use Rattle.image_rows.specs.Rows.{countsOf}
 use Rattle.image_check.specs.Check.{checked}
 use Rattle.machine_records.specs.Values.{Values}
 use Rattle.machine_fit.specs.Fitted.{fittingIn}
-use Rattle.machine_schedule.specs.Schedule.{pairsOf, stateBehind, valuesBehind, eventRecords, longest, needed, outcomeOf, outcomeAfter, outcome, ifDone, decided, scheduled, valuesAfter, recordsAfter}
-use Rattle.machine_schedule.specs.Loop.{stateIn, Ran}
+use Rattle.machine_turns.specs.Schedule.{pairsOf, stateBehind, valuesBehind, eventRecords, longest, needed, outcomeOf, outcomeAfter, outcome, ifDone, decided, scheduled, valuesAfter, recordsAfter}
+use Rattle.machine_turns.specs.Loop.{stateIn, Ran}
 
 -- Refusals and their opposite are told apart.
 abbrev IsDone : Outcome → Type 0

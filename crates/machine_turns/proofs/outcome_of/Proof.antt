@@ -1,7 +1,7 @@
 use borrow.Author.Tests.{eq-eqb, ne-eqb, le-leb, lt-leb}
 use borrow.Author.Needs.{needs}
-use Rattle.machine_schedule.proofs.outcome_of.Statement.{statement}
-use Rattle.machine_schedule.proofs.outcome_of.Tie as tie
+use Rattle.machine_turns.proofs.outcome_of.Statement.{statement}
+use Rattle.machine_turns.proofs.outcome_of.Tie as tie
 
 returns : tie.Need-returns
 returns c = rw (ne-eqb _ _ (c .if1 .taken))
