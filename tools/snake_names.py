@@ -137,7 +137,8 @@ def aliases(text):
     return set(re.findall(r"(?m)^\s*(?:pub )?(?:ghost )?use Rattle\.[\w.'+-]+ as (\w+)", text))
 
 
-def turned(text, out, comments_whole=False):
+def turned(text, out, source=False):
+    """The text of a file in antt, or of a source file, where a name that Rust could have is turned in a ghost use alone."""
     away = imported_elsewhere(text)
     mods = aliases(text)
 
@@ -146,8 +147,8 @@ def turned(text, out, comments_whole=False):
             w = m.group(0)
             if w not in out or w in away:
                 return w
-            if "-" in w:
-                if comment:
+            if "-" in w or not re.search("[A-Z]", w):
+                if comment or (source and "-" not in w and not line.startswith("ghost use")):
                     return w
                 if m.start() and line[m.start() - 1] == ".":
                     before = re.search(r"([\w'-]+)\.$", line[: m.start()])
@@ -186,7 +187,7 @@ def main(argv):
     paths = re.compile(r"\bspecs\.laws\b")
     for p in list(files(root, (".antt", ".rt"))):
         old = read(p)
-        new = paths.sub("specs.Laws", turned(old, out | APART.get(os.path.relpath(p, root), {})))
+        new = paths.sub("specs.Laws", turned(old, out | APART.get(os.path.relpath(p, root), {}), p.endswith(".rt")))
         if p.endswith("specs/Lib.antt"):
             new = re.sub(r"(?m)^(\s*pub mod )laws\b", r"\1Laws", new)
         if new != old:

@@ -1,1 +1,2 @@
 // Theorems alone: specs/.
+#![tactic(auto)]

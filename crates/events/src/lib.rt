@@ -1,5 +1,7 @@
 // What a turn reports, as others take it: document 01's four numbers of an event, and the six bytes of an event record, "event, task,
 // channel, value (2, low byte first), partner". Listing, schedule and firmware all take an event from here.
+#![tactic(auto)]
+
 ghost use Rattle.std.specs.Prelude.{◌≡◌, ◌+◌, ◌≤◌, length};
 ghost use Rattle.std.proofs.lemmas.List.Edits.{sets};
 ghost use Rattle.meaning.specs.Events.{event, numbers};

@@ -2,6 +2,8 @@
 // place: each is asked of crate image_row, and the number of case rows still to come is all that is carried from row to row. Once
 // the counts are good and the distance does not reach ahead of the slice, every byte that is read is there. The row test answers
 // every slice and so asks again whether it is; that does not change along the pass, and the compiler asks it once.
+#![tactic(auto)]
+
 ghost use Rattle.std.specs.Prelude.{◌≡◌, ◌+◌, ◌*◌, ◌≤◌, length};
 ghost use Rattle.meaning.specs.Bytes.{row_size, span_of};
 ghost use Rattle.image_check.specs.Check.{row_bad, capacity_bad, first_row_bad, first_of, body_checked, counts_good, checked};
@@ -16,14 +18,14 @@ use meaning::sizes::{
 };
 
 // What the check answers: good, or the refusal's number and place.
-#[derive(Drop)]
+#[derive(Clone, Copy)]
 pub enum Checked {
     Good,
     Refused(u8, u16),
 }
 
 // The first bad row, channel or task, if there is one.
-#[derive(Drop)]
+#[derive(Clone, Copy)]
 pub enum First {
     Nowhere,
     At(u16),

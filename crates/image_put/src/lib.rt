@@ -1,5 +1,7 @@
 // A row of a step image written: the five fields of a statement, and their eight bytes. The table of document 01, 'Step image', from
 // statements to bytes.
+#![tactic(auto)]
+
 ghost use Rattle.std.specs.Prelude.{◌≡◌, ◌+◌, ◌≤◌, length};
 ghost use Rattle.std.proofs.lemmas.List.Edits.{sets};
 ghost use Rattle.image_rows.specs.Rows.{fields_put, row_put};

@@ -1,6 +1,8 @@
 // One row of an image, judged: document 01, 'What comes back'. Whoever walks over rows asks here, in whatever order: the check all of
 // them, one after another, the fit for targets alone. Every slice is answered; a slice that does not hold every row has none that
 // passes, so that the lines of the table, below, count on every row being there.
+#![tactic(auto)]
+
 ghost use Rattle.std.specs.Prelude.{◌≡◌};
 ghost use Rattle.meaning.specs.Bytes.{statement_of, fields_of_row};
 ghost use Rattle.image_row.specs.Row.{is_target, owed_after, row_passes};

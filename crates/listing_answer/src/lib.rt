@@ -1,5 +1,7 @@
 // What an input of the listing program comes to, document 01, 'A listing, whole', in the order of the answers: too long, a refused
 // text, a bad schedule, a run.
+#![tactic(auto)]
+
 ghost use Rattle.std.specs.Prelude.{◌≡◌, ◌%◌, length, take, drop};
 ghost use Rattle.listing_answer.specs.Answer.{scheduled, answered, image_after};
 
@@ -7,7 +9,7 @@ use listing_input::{Schedule, read_schedule, split_at_run};
 use translate::{Translated, translate};
 
 // What an input comes to: one of the three lines that stand alone, or a run.
-#[derive(Drop)]
+#[derive(Clone, Copy)]
 pub enum Answer {
     TooLong,
     Refused(u8, u16), // number, place

@@ -1,4 +1,6 @@
 // What the listing program is given: a job text up to a line `run`, then a schedule. Both are read in place.
+#![tactic(auto)]
+
 ghost use Rattle.std.specs.Prelude.{◌≡◌, ◌&&◌, ◌+◌, ◌≤◌, ◌<◌, min, length, drop};
 ghost use Rattle.text_words.specs.Words.{run, same_word};
 ghost use Rattle.listing_input.specs.Input.{in_line, run_word, is_run, split_of, is_byte, ended, schedule_of, pair_at};
@@ -6,21 +8,21 @@ ghost use Rattle.listing_input.specs.Input.{in_line, run_word, is_run, split_of,
 use text_words::{NO_WORD, NUMBER, Word, word_at};
 
 // Where the job text ends, and where the schedule begins.
-#[derive(Drop)]
+#[derive(Clone, Copy)]
 pub struct Split {
     pub text: usize,
     pub rest: usize,
 }
 
 // What a schedule says: nothing of use, or this many pairs.
-#[derive(Drop)]
+#[derive(Clone, Copy)]
 pub enum Schedule {
     Bad,
     Pairs(usize),
 }
 
 // A pair of a schedule, and the place behind it.
-#[derive(Drop)]
+#[derive(Clone, Copy)]
 pub struct Pair {
     pub task: u8,
     pub choice: u8,

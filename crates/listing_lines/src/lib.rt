@@ -1,4 +1,6 @@
 // What the listing program prints, document 01, 'A listing, whole': one line for each call, built up byte by byte.
+#![tactic(auto)]
+
 ghost use Rattle.std.specs.Prelude.{◌≡◌, ◌++◌, ◌∷◌, [], ◌+◌, ◌*◌, ◌≤◌, ◌<◌, min, length};
 ghost use Rattle.meaning.specs.Events.{numbers};
 ghost use Rattle.meaning.specs.Numbers.{capacity_limit};

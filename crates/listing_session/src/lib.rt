@@ -2,6 +2,8 @@
 // of one line; any other has a line for each turn, each task, each
 // channel and the stamp. Whoever lists an input asks for line after line and writes it, or compares it, and keeps nothing else.
 // `listed-whole` in specs/laws/Whole.antt says that these lines, one behind the other, are the listing of document 01.
+#![tactic(auto)]
+
 ghost use Rattle.std.specs.Prelude.{◌≡◌};
 ghost use Rattle.listing_session.specs.Kinds.{Keep};
 ghost use Rattle.listing_lines.specs.Lines.{Shows};

@@ -1,5 +1,7 @@
 // The machine as its callers see it: a fresh start, one turn, and the values after it, over an image, a state and the values by
 // value. Every image, state, task number and choice is answered.
+#![tactic(auto)]
+
 ghost use Rattle.std.specs.Prelude.{◌≡◌, true, ◌≤◌};
 ghost use Rattle.meaning.specs.Bytes.{body_of, start_of};
 ghost use Rattle.meaning.specs.Numbers.{task_limit};

@@ -1,6 +1,8 @@
 // Plans that move the mover alone, carried out where the state lies: a fault, a task that waits, branches, begins a lap or ends, and a
 // zero received from a closed and empty channel. Each is a few changes one behind the other and the stamp's tick. Every state is
 // answered.
+#![tactic(auto)]
+
 ghost use Rattle.std.specs.Prelude.{false};
 ghost use Rattle.machine_records.specs.Records.{halted, task_got, task_went, task_stood, task_lapped, joined};
 ghost use Rattle.machine_records.specs.Plans.{did};

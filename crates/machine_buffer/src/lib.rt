@@ -1,5 +1,7 @@
 // All buffers together, a row of cells for each channel, beside the state. A row holds a channel's values, oldest first; the cells
 // past its length are 0. What is done to one row is done, and proved, over a lent slice: for rows of any capacity.
+#![tactic(auto)]
+
 ghost use Rattle.std.specs.Prelude.{◌≡◌, ◌-◌, length, set, take, drop, replicate};
 ghost use Rattle.machine_records.specs.Cells.{over};
 ghost use Rattle.machine_records.specs.Values.{oldest, shifted, changed};

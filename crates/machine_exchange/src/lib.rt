@@ -1,5 +1,7 @@
 // Send, receive and close decided: each rule asks in document 01's order and answers the plan of the turn, to wait where nothing else
 // is possible. Nothing is changed here. `body` is the image from row 0 on, `rows` the number of its rows.
+#![tactic(auto)]
+
 ghost use Rattle.std.specs.Prelude.{◌≡◌};
 ghost use Rattle.meaning.specs.Machine.{payload};
 ghost use Rattle.machine_exchange.specs.Kinds.{On};
@@ -26,7 +28,7 @@ const CLOSE_OF_CLOSED: u8 = 3;
 const CLOSE_UNDER_SENDER: u8 = 4;
 
 // What an operation asks of its channel: to give a value, or to get one.
-#[derive(Drop)]
+#[derive(Clone, Copy)]
 pub enum Exchange {
     Gives(Port, u16),
     Gets(Port),

@@ -1,6 +1,8 @@
 // Whether a state fits an image, document 01's sentence test by test: refusal 17 is given exactly where this says no. `body` is
 // the image from row 0 on and `k` its counts. A state that fits holds nothing in its cells but what its records tell. One walk over
 // the waiting order counts how often each task is named, and one walk over the tasks holds each to its count.
+#![tactic(auto)]
+
 ghost use Rattle.std.specs.Prelude.{◌≡◌, true, ◌&&◌, ℕ, ◌+◌, ◌≤◌, ◌<◌, leb, take, replicate};
 ghost use Rattle.machine_records.specs.Fitting.{every, name_fits, length_fits, task_fits, fitting};
 ghost use Rattle.machine_store.specs.Store.{records_in};

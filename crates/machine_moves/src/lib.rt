@@ -1,5 +1,7 @@
 // A plan carried out where the state lies: one function for each plan of machine_records, each a few changes one behind the other and
 // the stamp's tick. Every state and every plan is answered.
+#![tactic(auto)]
+
 ghost use Rattle.std.specs.Prelude.{◌≡◌, true, ◌-◌};
 ghost use Rattle.machine_records.specs.Records.{chan_in, task_got, task_went, chan_longer, chan_shorter, left};
 ghost use Rattle.machine_records.specs.Plans.{did, applied};

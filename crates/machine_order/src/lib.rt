@@ -1,5 +1,7 @@
 // The waiting order where it lies: sixteen cells of the state, of which the first hold the waiting tasks, longest first, and the
 // rest are 0. A task joins it, leaves it, or all of it is put anew.
+#![tactic(auto)]
+
 ghost use Rattle.std.specs.Prelude.{◌≡◌};
 ghost use Rattle.machine_records.specs.Records.{with_order, joined, left};
 ghost use Rattle.machine_store.specs.Store.{Made};

@@ -1,4 +1,6 @@
 // Whether one task, so often named in the waiting order, stands as a state that fits has it. `body` is the image from row 0 on.
+#![tactic(auto)]
+
 ghost use Rattle.std.specs.Prelude.{◌≡◌};
 ghost use Rattle.machine_records.specs.Fitting.{can_wait};
 ghost use Rattle.machine_place.specs.Places.{place_named, record_named};

@@ -1,10 +1,12 @@
 // The kinds that the machine's parts speak of, and in specs/ what a turn does, said over the records that a state reads as. There is
 // no code here: the parts above hold the state in cells, read and change it there, and promise what these definitions say.
+#![tactic(auto)]
+
 use meaning::sizes::DEPTH;
 use meaning::{Chan, Event, Op, Port, Row, Status, Task};
 
 // One task: its status, ok mark, register, row, and the laps that it has begun in each repeat around that row.
-#[derive(Drop)]
+#[derive(Clone, Copy)]
 pub struct TaskState {
     pub status: Status,
     pub ok: bool,
@@ -14,7 +16,7 @@ pub struct TaskState {
 }
 
 // One channel. Its capacity is the image's, its values stand beside the state.
-#[derive(Drop)]
+#[derive(Clone, Copy)]
 pub struct ChanState {
     pub closed: bool,
     pub len: u8,
@@ -22,7 +24,7 @@ pub struct ChanState {
 
 // What a turn does to the values of a channel, with its length before the turn: nothing, append, take the oldest, or take the
 // oldest and append.
-#[derive(Drop)]
+#[derive(Clone, Copy)]
 pub enum Change {
     Keep,
     Append(Chan, u8, u16),
@@ -31,21 +33,21 @@ pub enum Change {
 }
 
 // The side of a channel on which a task waits.
-#[derive(Drop)]
+#[derive(Clone, Copy)]
 pub enum Side {
     Receiving,
     Sending,
 }
 
 // An operation and the rows to which it leads: the second after a receive with ok off.
-#[derive(Drop)]
+#[derive(Clone, Copy)]
 pub enum Offer {
     Nothing,
     By(Op, Row, Row),
 }
 
 // The first task that waits, with the operation by which it would be woken.
-#[derive(Drop)]
+#[derive(Clone, Copy)]
 pub enum Found {
     Nobody,
     At(Task, Op, Row, Row),
@@ -57,7 +59,7 @@ pub enum Found {
 //     Hand: a value to a waiting receiver; Append: into the buffer
 //     Take: the oldest value; Refill: the same, and a waiting sender's value behind it; Receive: a waiting sender's; Drain: a zero
 //     Shut: close, and wake all that wait to receive
-#[derive(Drop)]
+#[derive(Clone, Copy)]
 pub enum Plan {
     Fail(u8, Port),
     Wait,
@@ -74,7 +76,7 @@ pub enum Plan {
 }
 
 // What a turn answers besides the state: its event, and what it does to the values.
-#[derive(Drop)]
+#[derive(Clone, Copy)]
 pub struct Moved {
     pub event: Event,
     pub change: Change,

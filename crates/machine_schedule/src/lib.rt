@@ -1,5 +1,7 @@
 // A whole schedule in one call (document 02, E1): pairs of task and choice from a slice, a record of six bytes for each turn. The
 // image is checked and the state held to it once, ahead of the first turn; behind that every turn is one step, in place.
+#![tactic(auto)]
+
 ghost use Rattle.std.specs.Prelude.{◌≡◌};
 ghost use Rattle.machine_turns.specs.Schedule.{outcome, scheduled, values_after, records_after};
 ghost use Rattle.machine_turns.specs.Loop.{Sixteen, state_in, Ready, Ran};

@@ -1,5 +1,7 @@
 // Which case a select takes: two walks over its case rows, one that counts the ready ones and one to the chosen one, and no array between
 // them. Nothing is changed here. `body` is the image from row 0 on, `rows` the number of its rows.
+#![tactic(auto)]
+
 ghost use Rattle.std.specs.Prelude.{◌≡◌, false, ◌+◌, ◌<◌, ltb, length, get_or};
 ghost use Rattle.meaning.specs.Image.{row_no};
 ghost use Rattle.meaning.specs.Bytes.{rows_in};

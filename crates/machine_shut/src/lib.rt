@@ -1,5 +1,7 @@
 // A close carried out where the state lies: the channel is closed, its buffer kept, and all that wait to receive on it wake. Every
 // state is answered.
+#![tactic(auto)]
+
 ghost use Rattle.machine_records.specs.Plans.{applied};
 ghost use Rattle.machine_store.specs.Store.{MadeTurn};
 ghost use Rattle.machine_shut.specs.Moves.{AllWoken};

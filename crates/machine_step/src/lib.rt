@@ -1,6 +1,8 @@
 // One turn on the rows of an image, made where the state lies: refused, or the plan of the mover's statement, decided first and then
 // carried out. `body` is the image from row 0 on, `rows` the number of its rows. Whether the image is good and the state fits it is
 // asked above; here every value is answered.
+#![tactic(auto)]
+
 ghost use Rattle.std.specs.Prelude.{◌≡◌, ◌+◌, if◌then◌else◌};
 ghost use Rattle.machine_records.specs.Records.{task_in};
 ghost use Rattle.machine_records.specs.Step.{repeated, no_case, offer_of, plan_alone, plan_by, plan_of, refusal_of, refused_by, stepped};

@@ -1,6 +1,8 @@
 // The machine's state where it lies: two arrays of numbers, lent and changed in place. The functions of this crate and of
 // machine_order alone know the places, but for machine_fit's test of statuses and marks; what they do is said over `records_in`, the
 // records that the two arrays read as. Task and channel numbers count by their remainder, so that every function answers every value.
+#![tactic(auto)]
+
 ghost use Rattle.std.specs.Prelude.{◌≡◌, ◌%◌, length, slice_index_or};
 ghost use Rattle.meaning.specs.Image.{task_no};
 ghost use Rattle.meaning.specs.Numbers.{task_limit};

@@ -1,5 +1,7 @@
 // Single turns in order, told as one call (document 02, E1): what a whole schedule answers and leaves (specs/Schedule), what is proved
 // of it, and the part of its answer that hangs on the lengths of the slices alone. The call itself is crate machine_schedule's.
+#![tactic(auto)]
+
 ghost use Rattle.std.specs.Prelude.{◌≡◌};
 ghost use Rattle.machine_turns.specs.Schedule.{needed, outcome_of};
 
@@ -14,7 +16,7 @@ const RECORDS_SHORT: u8 = 31;
 const LONGEST: usize = 6148914691236517205;
 
 // What a schedule answers: how many bytes of records are written, or a refusal's number and place.
-#[derive(Drop)]
+#[derive(Clone, Copy)]
 pub enum Outcome {
     Done(usize),
     Refused(u8, usize),

@@ -1,6 +1,8 @@
 // Who waits for what: the waiting tasks with which an operation could be paired, found by the rows at which they stand. A row, and
 // each case row of a select, is asked by two of its bytes, its op and its channel; only the one that serves is decoded. `body` is the
 // image from row 0 on.
+#![tactic(auto)]
+
 ghost use Rattle.std.specs.Prelude.{◌≡◌, ◌+◌};
 ghost use Rattle.meaning.specs.Image.{row_no};
 ghost use Rattle.meaning.specs.Machine.{is_on};
@@ -19,21 +21,21 @@ use meaning::{Chan, Op, Row, Task};
 const SELECT: u8 = 8;
 
 // The two bytes of a row that are asked.
-#[derive(Drop)]
+#[derive(Clone, Copy)]
 pub struct Head {
     pub op: u8,
     pub chan: u8,
 }
 
 // The number of the row, or case row, by which a task is served.
-#[derive(Drop)]
+#[derive(Clone, Copy)]
 pub enum Served {
     Nowhere,
     At(u32),
 }
 
 // Where a task that is woken with ok off goes on.
-#[derive(Drop)]
+#[derive(Clone, Copy)]
 pub enum Miss {
     Nowhere,
     To(Row),

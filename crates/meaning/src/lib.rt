@@ -1,6 +1,7 @@
 // The kinds that the code and the definitions share, in the forms that document 01 names.
 // They stand here, below everything else, so that a definition in specs/ speaks of the very values that the code passes
 // and answers, and no second set of kinds has to be related to the first.
+#![tactic(auto)]
 
 ghost use Rattle.std.specs.Prelude.{◌≡◌};
 ghost use Rattle.meaning.specs.Events.{port_number};
@@ -11,17 +12,17 @@ use sizes::NIL;
 
 // Document 01, 'Step image': a task number and a channel number both run from 0 to 15 and are kept apart by kind; so is
 // the number of a row.
-#[derive(Drop)]
+#[derive(Clone, Copy)]
 pub struct Task(pub u8);
 
-#[derive(Drop)]
+#[derive(Clone, Copy)]
 pub struct Chan(pub u8);
 
-#[derive(Drop)]
+#[derive(Clone, Copy)]
 pub struct Row(pub u16);
 
 // A channel, or nil.
-#[derive(Drop)]
+#[derive(Clone, Copy)]
 pub enum Port {
     Nil,
     On(Chan),
@@ -29,7 +30,7 @@ pub enum Port {
 
 // Document 01, 'Job text': "Each case holds one operation of three kinds: send with its value, forward or recv."
 // The statements send, forward and recv carry the same operation.
-#[derive(Drop)]
+#[derive(Clone, Copy)]
 pub enum Op {
     Send(Port, u16),
     Forward(Port),
@@ -37,14 +38,14 @@ pub enum Op {
 }
 
 // What a select does when no case is ready: wait, or go on at the first row of its default.
-#[derive(Drop)]
+#[derive(Clone, Copy)]
 pub enum Otherwise {
     Wait,
     Go(Row),
 }
 
 // A row of a step image, as the table of document 01, 'Step image', reads it.
-#[derive(Drop)]
+#[derive(Clone, Copy)]
 pub enum Statement {
     Do(Op, Row), // next
     Close(Port, Row), // next
@@ -57,7 +58,7 @@ pub enum Statement {
 }
 
 // The five fields of a row, as its eight bytes hold them: "op, chan, arg (2), next (2), other (2)".
-#[derive(Drop)]
+#[derive(Clone, Copy)]
 pub struct Fields {
     pub op: u8,
     pub chan: u8,
@@ -67,7 +68,7 @@ pub struct Fields {
 }
 
 // The three states of a task that a listing prints as 0, 1, 2.
-#[derive(Drop)]
+#[derive(Clone, Copy)]
 pub enum Status {
     Able,
     Waiting,
@@ -75,7 +76,7 @@ pub enum Status {
 }
 
 // What a turn reports. specs/Events.antt gives document 01's four numbers for each.
-#[derive(Drop)]
+#[derive(Clone, Copy)]
 pub enum Event {
     Appended(Chan, u16),
     Handed(Chan, u16, Task), // to this waiting receiver
@@ -92,7 +93,7 @@ pub enum Event {
 }
 
 // The four numbers by which document 01 tells an event.
-#[derive(Drop)]
+#[derive(Clone, Copy)]
 pub struct EventNumbers {
     pub number: u8,
     pub channel: u8,

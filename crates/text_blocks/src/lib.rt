@@ -1,5 +1,7 @@
 // The words of a block that no statement begins with: `end` behind what is inside it, and the `case` of a select, with the operation
 // that is due behind that word.
+#![tactic(auto)]
+
 ghost use Rattle.text_reader.specs.Answers.{EndTold, CaseOpTold, CaseHeadTold};
 
 use meaning::sizes::ROWS;

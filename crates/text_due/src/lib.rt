@@ -1,5 +1,7 @@
 // What is due at a word: a number, a channel, or a word that can stand there. Each function looks at one word, with the refusals that
 // fall due at it.
+#![tactic(auto)]
+
 ghost use Rattle.std.specs.Prelude.{◌≡◌};
 ghost use Rattle.text_reader.specs.Answers.{NumberTold, PortTold, out_of_place};
 

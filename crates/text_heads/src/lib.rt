@@ -1,5 +1,7 @@
 // What stands ahead of every body: operations, and the heads of statements with their limits. A limit is judged at the statement's
 // word, ahead of the operands behind it.
+#![tactic(auto)]
+
 ghost use Rattle.std.specs.Prelude.{◌≡◌};
 ghost use Rattle.meaning.specs.Numbers.{lap_limit};
 ghost use Rattle.text_reader.specs.declared.Head.{Head};

@@ -1,4 +1,6 @@
 // The words of a job that stand in no body: the channels, and `task` and `end` around each body.
+#![tactic(auto)]
+
 ghost use Rattle.text_reader.specs.Answers.{ChanTold, ChansTold, TaskHeadTold, TaskEndTold};
 
 use meaning::sizes::{CHANS, ROWS};

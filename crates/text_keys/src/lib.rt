@@ -1,5 +1,7 @@
 // Words as numbers. The bytes of a word, gathered base 256 on the way to its end, are its key, and a table of words is searched by
 // key: a row of the table holds a word's bytes, filled up to eight, and beside it stands how many of the eight count.
+#![tactic(auto)]
+
 ghost use Rattle.std.specs.Prelude.{◌≡◌};
 ghost use Rattle.text_keys.specs.Keys.{key_more, key_of, cut_key, place_in};
 

@@ -2,13 +2,15 @@
 // text_jobs: each decides one word or a few, with the refusals that fall due there, and carries numbers alone: a place in the text, the
 // rows so far, the depth, the channels. Pass 1 of the translator strings them together by recursive descent, as specs/Reading.antt
 // does, and so has every refusal from them before a byte is written.
+#![tactic(auto)]
+
 use meaning::{Op, Port};
 
 pub mod kinds;
 
 // What reading a part of the text answers: the place behind it and the rows so far; that no such part stands here; or a
 // refusal's number and place.
-#[derive(Drop)]
+#[derive(Clone, Copy)]
 pub enum Read {
     Done(usize, u16),
     Nothing,
@@ -16,26 +18,26 @@ pub enum Read {
 }
 
 // The same for several parts in a row, with how many there are.
-#[derive(Drop)]
+#[derive(Clone, Copy)]
 pub enum Counted {
     Done(usize, u16, u8),
     Refused(u8, usize),
 }
 
 // A number, a channel or an operation that is due, and the place behind it.
-#[derive(Drop)]
+#[derive(Clone, Copy)]
 pub enum NumberRead {
     Got(u16, usize),
     Refused(u8, usize),
 }
 
-#[derive(Drop)]
+#[derive(Clone, Copy)]
 pub enum PortRead {
     Got(Port, usize),
     Refused(u8, usize),
 }
 
-#[derive(Drop)]
+#[derive(Clone, Copy)]
 pub enum OpRead {
     Got(Op, usize),
     Nothing,
@@ -43,7 +45,7 @@ pub enum OpRead {
 }
 
 // The first words of a case, down to its body: its operation, the place behind it and the rows then.
-#[derive(Drop)]
+#[derive(Clone, Copy)]
 pub enum CaseHead {
     Got(Op, usize, u16),
     Nothing,
@@ -51,7 +53,7 @@ pub enum CaseHead {
 }
 
 // The first words of a statement, down to its first body: which statement, its operands and the place behind them.
-#[derive(Drop)]
+#[derive(Clone, Copy)]
 pub enum Head {
     Operate(Op, usize),
     Close(Port, usize),
@@ -65,7 +67,7 @@ pub enum Head {
 }
 
 // What a whole text is: a job with so many rows, channels and tasks, or refused.
-#[derive(Drop)]
+#[derive(Clone, Copy)]
 pub enum Reading {
     Job(u16, u8, u8),
     Refused(u8, usize),

@@ -12,7 +12,7 @@ pub fn is_blank(b: u8) -> bool
     if b == b' ' { true } else { b == b'\n' }
 }
 
-pub fn is_digit_lem(b: u8) -> bool
+pub fn is_digit(b: u8) -> bool
     ensures { result ≡ is_digit b }
 {
     if b'0' <= b { b <= b'9' } else { false }
@@ -30,7 +30,7 @@ pub fn is_allowed(b: u8) -> bool
     if is_letter(b) {
         return true;
     }
-    if is_digit_lem(b) {
+    if is_digit(b) {
         return true;
     }
     is_blank(b)

@@ -1,10 +1,12 @@
 // Bytes to words: the lowest layer of the translator, document 01, 'Job text'. A text is read in place, one word at a time, from
 // any place on; every text and every place is answered, and each byte of a word is looked at once.
+#![tactic(auto)]
+
 ghost use Rattle.std.specs.Prelude.{◌≡◌, true, false, ◌+◌, ◌<◌, ltb, length, get_or, drop};
 ghost use Rattle.text_words.specs.Words.{is_blank, is_digit, is_allowed, in_word, run, word_at, first_not_allowed};
 ghost use Rattle.text_words.specs.Scan.{letters_from, ends_at, number_by, word_from};
 
-use crate::bytes::{is_allowed, is_blank, is_digit_lem};
+use crate::bytes::{is_allowed, is_blank, is_digit};
 use crate::numbers::{digits_from, has_leading_zero, value_by, value_more};
 use crate::table::kind_by;
 use text_keys::key_more;
@@ -22,7 +24,7 @@ pub const OTHER_WORD: u8 = 18;
 
 // A word of a text: its kind (NO_WORD where the text has ended, k + 1 for reserved word k, NUMBER, or OTHER_WORD), its
 // value if it is a number and 0 otherwise, where it begins, and the place behind it.
-#[derive(Drop)]
+#[derive(Clone, Copy)]
 pub struct Word {
     pub kind: u8,
     pub value: u32,
@@ -31,7 +33,7 @@ pub struct Word {
 }
 
 // A byte's place in a text, if there is such a byte.
-#[derive(Drop)]
+#[derive(Clone, Copy)]
 pub enum Place {
     Nowhere,
     At(usize),
@@ -196,7 +198,7 @@ pub fn word_at(text: &[u8], at: usize) -> Word
             next: start,
         };
     }
-    if is_digit_lem(text[start]) {
+    if is_digit(text[start]) {
         return number_at(text, start);
     }
     letters_at(text, start)

@@ -3,13 +3,13 @@ ghost use Rattle.std.specs.Prelude.{◌≡◌, true, ◌^◌, ◌<◌};
 ghost use Rattle.text_words.specs.Words.{is_digit};
 ghost use Rattle.text_words.specs.Scan.{value_more, digits_from, zero_led, value_by};
 
-use crate::bytes::is_digit_lem;
+use crate::bytes::is_digit;
 
 // Every larger number is over every range, and so is 65,536: it stands for all of them.
 const CAP: u32 = 65536;
 
 // Digits of a text: their value modulo 2 ^ 32, and the place behind them.
-#[derive(Drop)]
+#[derive(Clone, Copy)]
 pub struct Digits {
     pub value: u64,
     pub next: usize,
@@ -32,7 +32,7 @@ pub fn digits_from(text: &[u8], before: u64, at: usize) -> Digits
     let mut i = at;
     while i < text.len() {
         let b = text[i];
-        if is_digit_lem(b) {
+        if is_digit(b) {
             v = value_more(v, b);
             i = i + 1;
         } else {

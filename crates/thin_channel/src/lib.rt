@@ -1,5 +1,7 @@
 // One channel record, lent for append and take and updated where it is. What is done to it is decided by value, in `value`;
 // the two lent forms load the record, ask, and store the record that is answered, so that no branch stands in them.
+#![tactic(auto)]
+
 ghost use Rattle.std.specs.Prelude.{◌≡◌};
 ghost use Rattle.thin_channel.specs.Channels.{appended_to, took_from};
 
@@ -9,7 +11,7 @@ use meaning::sizes::CELLS;
 use value::{add_to, take_from};
 
 // The values stand oldest first, in the first `len` cells.
-#[derive(Drop)]
+#[derive(Clone, Copy)]
 pub struct Channel {
     pub capacity: u8,
     pub closed: bool,
@@ -18,20 +20,20 @@ pub struct Channel {
 }
 
 // Whether the value was appended, and the channel afterwards: as it was, where it was not.
-#[derive(Drop)]
+#[derive(Clone, Copy)]
 pub struct Added {
     pub ok: bool,
     pub channel: Channel,
 }
 
-#[derive(Drop)]
+#[derive(Clone, Copy)]
 pub enum Taken {
     Value(u16),
     No,
 }
 
 // The value taken, and the channel afterwards: as it was, where none was taken.
-#[derive(Drop)]
+#[derive(Clone, Copy)]
 pub struct Took {
     pub taken: Taken,
     pub channel: Channel,

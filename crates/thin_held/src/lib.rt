@@ -1,5 +1,7 @@
 // What is held of an image at its opening, and what is asked of the slice and of what is held. The struct that holds both is
 // thin_image's.
+#![tactic(auto)]
+
 ghost use Rattle.std.specs.Prelude.{◌≡◌};
 ghost use Rattle.thin_held.specs.Asked.{counts_held, held_of, row_asked, capacity_asked, first_row_asked};
 
@@ -10,26 +12,26 @@ use image_rows::table::{capacity_in, first_row_in, statement_at};
 use meaning::{Chan, Row, Statement, Task};
 
 // What the check answered, and what the trailer counts: nothing, where the check refused.
-#[derive(Drop)]
+#[derive(Clone, Copy)]
 pub struct Held {
     pub answer: Checked,
     pub counts: Counts,
 }
 
 // The row, capacity or first row asked for, or no such row, channel or task.
-#[derive(Drop)]
+#[derive(Clone, Copy)]
 pub enum RowAnswer {
     Found(Statement),
     No,
 }
 
-#[derive(Drop)]
+#[derive(Clone, Copy)]
 pub enum CapacityAnswer {
     Found(u8),
     No,
 }
 
-#[derive(Drop)]
+#[derive(Clone, Copy)]
 pub enum FirstRowAnswer {
     Found(Row),
     No,

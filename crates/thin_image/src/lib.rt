@@ -4,6 +4,8 @@
 //
 // No enum can hold a struct that holds a reference, so `open` cannot answer "refused, or opened": the check's answer stands in
 // the struct. Its fields are private, so that `open` alone makes one.
+#![tactic(auto)]
+
 ghost use Rattle.std.specs.Prelude.{◌≡◌};
 ghost use Rattle.thin_held.specs.Asked.{row_asked, capacity_asked, first_row_asked};
 ghost use Rattle.thin_image.specs.Opened.{opened_of, answers_of};
@@ -15,14 +17,14 @@ use thin_held::{
     row_asked,
 };
 
-#[derive(Drop)]
+#[derive(Clone, Copy)]
 pub struct Opened<'a> {
     image: &'a [u8],
     held: Held,
 }
 
 // The answers to a question of each kind.
-#[derive(Drop)]
+#[derive(Clone, Copy)]
 pub struct Answers {
     pub check: Checked,
     pub row: RowAnswer,

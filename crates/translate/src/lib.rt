@@ -1,5 +1,7 @@
 // The translator: job text to step image. Pass 1 reads the text and decides every refusal; only then does pass 2 write the rows, into
 // the buffer lent to it and nowhere else; what stands behind the rows is written here.
+#![tactic(auto)]
+
 ghost use Rattle.std.specs.Prelude.{◌≡◌, length};
 ghost use Rattle.translate.specs.Translated.{translated, written};
 
@@ -11,7 +13,7 @@ mod bytes;
 mod writing;
 
 // What a translation answers: the image's length, or the refusal's number and place.
-#[derive(Drop)]
+#[derive(Clone, Copy)]
 pub enum Translated {
     Image(usize),
     Refused(u8, usize),

@@ -1,5 +1,7 @@
 // A note written as its row: which rows the fields name is decided here and nowhere else. Where each row stands is counted above, in
 // pass 2.
+#![tactic(auto)]
+
 ghost use Rattle.std.specs.Prelude.{◌≡◌, ◌+◌, ◌-◌, ◌/◌, ◌%◌};
 ghost use Rattle.meaning.specs.Bytes.{fields, bytes_of};
 ghost use Rattle.image_rows.specs.Rows.{fields_put};

@@ -1,5 +1,7 @@
 // Notes: what pass 1 of the translator leaves of a text for pass 2, three numbers for each row in text order. Here a note is made: the
 // numbers of a row, and their place in the array. Which rows there are is read above, in pass 1.
+#![tactic(auto)]
+
 ghost use Rattle.std.specs.Prelude.{◌≡◌, ◌+◌, ◌*◌};
 ghost use Rattle.translate_notes.specs.Notes.{op_code, op_port, op_arg, noted};
 

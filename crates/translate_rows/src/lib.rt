@@ -1,5 +1,7 @@
 // The two passes of the translator. Pass 1 reads the text once, decides every refusal and leaves a note for each row; pass 2 writes the
 // rows from the notes and never looks at the text.
+#![tactic(auto)]
+
 ghost use Rattle.std.specs.Prelude.{◌≡◌};
 ghost use Rattle.text_reader.specs.Answers.{told_job};
 ghost use Rattle.text_reader.specs.Reading.{reading};
@@ -17,7 +19,7 @@ mod reading;
 mod tasks;
 
 // What the two passes answer: the job's numbers or a refusal, and the first row of each task, 0 past the last.
-#[derive(Drop)]
+#[derive(Clone, Copy)]
 pub struct Passed {
     pub reading: Reading,
     pub firsts: [u16; TASKS as usize],

@@ -25,7 +25,7 @@ letters-at-requires c κs =
     let a = c.before.before.before.before.before.before.args in
     let s = c.before.before.before.before.skip-blanks.ensures in
     let h = c.before.before.before.if1.false in
-    (h, rw s (start_no_blank a.text.now a.at (rw s at h)), sym c.before.is_digit_lem.ensures ∙ c.if2.false)
+    (h, rw s (start_no_blank a.text.now a.at (rw s at h)), sym c.before.is_digit.ensures ∙ c.if2.false)
 
 returns-3 : tie.Need-returns-3
 unfolding start_at
@@ -41,7 +41,7 @@ word-at-spec =
     returns
     (λ c. search rules)
     (λ c κs. search rules)
-    (λ c κs. (c.before.before.before.if1.false, sym c.before.is_digit_lem.ensures ∙ c.if2.true))
+    (λ c κs. (c.before.before.before.if1.false, sym c.before.is_digit.ensures ∙ c.if2.true))
     returns-2
     letters-at-requires
     returns-3)

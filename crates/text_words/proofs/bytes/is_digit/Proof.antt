@@ -1,7 +1,7 @@
 use borrow.Author.Tests.{le-leb, lt-leb}
 use Rattle.text_words.specs.Words.{is_digit}
-use Rattle.text_words.proofs.bytes.is_digit_lem.Statement.{statement}
-use Rattle.text_words.proofs.bytes.is_digit_lem.Tie as tie
+use Rattle.text_words.proofs.bytes.is_digit.Statement.{statement}
+use Rattle.text_words.proofs.bytes.is_digit.Tie as tie
 
 returns : tie.Need-returns
 unfolding is_digit

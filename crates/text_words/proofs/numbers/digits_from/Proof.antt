@@ -17,13 +17,13 @@ loop-again : tie.Need-loop-preserved invariant-loop decreases-loop
 loop-again c =
     let l = c.before.before.before.before.before.loop in
     let h = c.before.before.before.before.loop-test.true in
-    let e = sym c.before.before.is_digit_lem.ensures ∙ c.before.if1.true in
+    let e = sym c.before.before.is_digit.ensures ∙ c.before.if1.true in
     (c.value-more.ensures.1, rw c.value-more.ensures.0 (digits_more _ l.v l.i h e ∙ l.invariant.1))
 
 returns : tie.Need-returns invariant-loop decreases-loop
 returns c =
     let l = c.before.before.before.before.loop in
-    digits_stop _ l.v l.i l.invariant.0 c.before.before.before.loop-test.true (sym c.before.is_digit_lem.ensures ∙ c.if1.false) ∙ l.invariant.1
+    digits_stop _ l.v l.i l.invariant.0 c.before.before.before.loop-test.true (sym c.before.is_digit.ensures ∙ c.if1.false) ∙ l.invariant.1
 
 returns-2 : tie.Need-returns-2 invariant-loop decreases-loop
 returns-2 c =
@@ -39,7 +39,7 @@ digits-from-spec =
     (λ c. (c.before.requires, refl))
     (λ c. search rules)
     (λ c κs. search rules)
-    (λ c κs. (c.before.before.before.before.loop.invariant.0, sym c.before.is_digit_lem.ensures ∙ c.if1.true))
+    (λ c κs. (c.before.before.before.before.loop.invariant.0, sym c.before.is_digit.ensures ∙ c.if1.true))
     (λ c. search rules)
     (λ c. search rules)
     loop-again
