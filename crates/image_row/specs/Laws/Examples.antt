@@ -121,7 +121,7 @@ examples =
     ∷ ahead (row 11 0 0 1 0) false
     ∷ []
 
-examples_hold : map (λ e. row_passes e.body e.rows 1 (row_no e.row-no) e.owed) examples ≡ map (λ e. e.answer) examples
+examples_hold : map (λ e. row_passes e.body e.rows 1 (row_no e.row_no_there) e.owed) examples ≡ map (λ e. e.answer) examples
 unfolding fields_of statement_of fields_of_row in_table owed_after port_good op_good is_case_row is_target otherwise_good cases_follow statement_good row_good row_passes
 examples_hold = refl
 

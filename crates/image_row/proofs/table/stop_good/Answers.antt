@@ -1,0 +1,49 @@
+use borrow.Author.Tests.{eq-eqb, ne_eqb}
+use Rattle.image_row.proofs.table.stop_good.Goals as goal
+
+pub chan_of-requires : goal.chan_of-requires
+chan_of-requires c = c.requires
+
+pub returns-then-chan_of-ne0 : goal.returns-then-chan_of-ne0
+returns-then-chan_of-ne0 c = rw (← c.chan_of.ensures, ne_eqb _ _ c.if-chan_of-ne0.true)
+
+pub arg_of-requires : goal.arg_of-requires
+arg_of-requires c = c.requires
+
+pub returns-then-arg_of-ne0 : goal.returns-then-arg_of-ne0
+returns-then-arg_of-ne0 c =
+    rw (
+      ← c.arg_of.ensures,
+      ← c.chan_of.ensures,
+      ne_eqb _ _ c.if-arg_of-ne0.true,
+      eq-eqb _ _ c.if-chan_of-ne0.false,
+    )
+
+pub next_of-requires : goal.next_of-requires
+next_of-requires c = c.requires
+
+pub returns-then-next_of-ne0 : goal.returns-then-next_of-ne0
+returns-then-next_of-ne0 c =
+    rw (
+      ← c.next_of.ensures,
+      ← c.arg_of.ensures,
+      ← c.chan_of.ensures,
+      ne_eqb _ _ c.if-next_of-ne0.true,
+      eq-eqb _ _ c.if-arg_of-ne0.false,
+      eq-eqb _ _ c.if-chan_of-ne0.false,
+    )
+
+pub other_of-requires : goal.other_of-requires
+other_of-requires c = c.requires
+
+pub returns : goal.returns
+returns c =
+    rw (
+      c.other_of.ensures,
+      ← c.next_of.ensures,
+      ← c.arg_of.ensures,
+      ← c.chan_of.ensures,
+      eq-eqb _ _ c.if-next_of-ne0.false,
+      eq-eqb _ _ c.if-arg_of-ne0.false,
+      eq-eqb _ _ c.if-chan_of-ne0.false,
+    )

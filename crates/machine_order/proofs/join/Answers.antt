@@ -1,0 +1,6 @@
+use Rattle.machine_order.specs.Laws.Order.{join_made}
+use borrow.Author.Rules.{rules}
+use Rattle.machine_order.proofs.join.Goals as goal
+
+pub returns : goal.returns
+returns c = join_made c.args.words.now c.args.cells.now (search rules) c.args.t

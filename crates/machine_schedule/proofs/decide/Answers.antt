@@ -1,0 +1,29 @@
+use Rattle.image_rows.specs.Rows.{counts_of}
+use Rattle.machine_turns.specs.Schedule.{outcome}
+use Rattle.machine_schedule.proofs.decide.Goals as goal
+
+pub returns-in-Refused : goal.returns-in-Refused
+unfolding outcome
+returns-in-Refused c = rw (← c.check.ensures, c.in-Refused.is)
+
+pub returns-then-fits : goal.returns-then-fits
+unfolding outcome counts_of
+returns-then-fits c =
+    let fits = c.before.before.fits2.ensures in
+    let counts = c.counts_in.ensures in
+    let trailer = c.trailer_of.ensures in
+    let body = c.body_of.ensures in
+    let good = c.in-Good.is in
+    let check = c.check.ensures in
+    rw (← check, good, ← trailer, ← counts, ← body, ← fits, c.if-fits.true, c.outcome_of.ensures)
+
+pub returns : goal.returns
+unfolding outcome counts_of
+returns c =
+    let fits = c.before.fits2.ensures in
+    let counts = c.counts_in.ensures in
+    let trailer = c.trailer_of.ensures in
+    let body = c.body_of.ensures in
+    let good = c.in-Good.is in
+    let check = c.check.ensures in
+    rw (← check, good, ← trailer, ← counts, ← body, ← fits, c.if-fits.false)

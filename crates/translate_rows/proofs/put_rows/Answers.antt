@@ -1,0 +1,43 @@
+use mathlib.Core.Path.{sym, ◌∙◌}
+use borrow.Author.Rules.{rules}
+use Rattle.translate_notes.specs.Notes.{all_of}
+use Rattle.translate_rows.specs.Laws.Passed.{refused_passed, firsts_are, rows_short, rows_there}
+use Rattle.translate_rows.specs.Laws.Jobs.{job_held, job_there, job_stored}
+use Rattle.translate_rows.specs.Laws.Read.{is_job, in_limits, job_rows}
+use Rattle.translate_rows.proofs.put_rows.Goals as goal
+
+pub lay_body-requires : goal.lay_body-requires
+lay_body-requires c =
+    let read = c.read-reading in
+    let t = is_job c.args.text.now c.in-Job.is read.ensures.0 in
+    let n = read.ensures.1 t.job t.at _ t.read in
+    let bs = t.job.tasks in
+    let l = (in_limits _ t).0 in
+    let h = job_held bs _ n.0 (search rules) (job_rows _ t) l in
+    job_there _ bs h l
+
+pub returns-in-Refused : goal.returns-in-Refused
+returns-in-Refused c =
+    let read = c.read-reading in
+    let z = refused_passed c.args.text.now _ c.in-Refused.is read.ensures.0 in (read.ensures.0, z.0, z.1)
+
+pub returns-then-length-image : goal.returns-then-length-image
+returns-then-length-image c =
+    let args = c.args in
+    let reading = c.reading-1 in
+    let read = c.read-reading in
+    let t = is_job args.text.now reading.given.1 read.ensures.0 in
+    let n = read.ensures.1 t.job t.at _ t.read in
+    let bs = t.job.tasks in
+    let l = (in_limits _ t).0 in
+    let h = job_held bs _ n.0 (search rules) (job_rows _ t) l in
+    (sym reading.given.1 ∙ read.ensures.0, n.1 ∙ sym (firsts_are _ args.image.now t), job_stored bs _ _ (c.lay_body.ensures (all_of bs) 0 h) ∙ sym (rows_there _ args.image.now t c.if-length-image.true))
+
+pub returns-else-length-image : goal.returns-else-length-image
+returns-else-length-image c =
+    let args = c.args in
+    let reading = c.reading-1 in
+    let read = c.read-reading in
+    let t = is_job args.text.now reading.given.1 read.ensures.0 in
+    let n = read.ensures.1 t.job t.at _ t.read in
+    (sym reading.given.1 ∙ read.ensures.0, n.1 ∙ sym (firsts_are _ args.image.now t), sym (rows_short _ args.image.now t c.if-length-image.false))
