@@ -137,7 +137,7 @@ def aliases(text):
     return set(re.findall(r"(?m)^\s*(?:pub )?(?:ghost )?use Rattle\.[\w.'+-]+ as (\w+)", text))
 
 
-def turned(text, out, source=False):
+def turned(text, out, fields, source=False):
     """The text of a file in antt, or of a source file, where a name that Rust could have is turned in a ghost use alone."""
     away = imported_elsewhere(text)
     mods = aliases(text)
@@ -152,7 +152,7 @@ def turned(text, out, source=False):
                     return w
                 if m.start() and line[m.start() - 1] == ".":
                     before = re.search(r"([\w'-]+)\.$", line[: m.start()])
-                    if not (before and before.group(1) in mods):
+                    if w not in fields and not (before and before.group(1) in mods):
                         return w
             return out[w]
 
@@ -180,6 +180,7 @@ def in_backticks(text, out):
 def main(argv):
     root = "."
     out, kinds = pairs(root)
+    fields = {w for w in kinds if "field" in kinds[w]}
     if argv[:1] == ["--names"]:
         for w in sorted(out):
             print(w, out[w], ",".join(sorted(kinds[w])))
@@ -187,7 +188,7 @@ def main(argv):
     paths = re.compile(r"\bspecs\.laws\b")
     for p in list(files(root, (".antt", ".rt"))):
         old = read(p)
-        new = paths.sub("specs.Laws", turned(old, out | APART.get(os.path.relpath(p, root), {}), p.endswith(".rt")))
+        new = paths.sub("specs.Laws", turned(old, out | APART.get(os.path.relpath(p, root), {}), fields, p.endswith(".rt")))
         if p.endswith("specs/Lib.antt"):
             new = re.sub(r"(?m)^(\s*pub mod )laws\b", r"\1Laws", new)
         if new != old:

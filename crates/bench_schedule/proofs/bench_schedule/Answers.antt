@@ -8,4 +8,4 @@ returns c =
     let made = c.schedule-made.ensures in
     let fresh = c.fresh_values-values.ensures in
     let begun = c.start-begun.ensures.0 in
-    (rw (← begun) (c.number_of_lem.ensures ∙ ap (λ (z : Scheduled). number_of z.outcome) made.0), rw (← begun, ← fresh) made.2)
+    (rw (← begun) (c.number_of.ensures ∙ ap (λ (z : Scheduled). number_of z.outcome) made.0), rw (← begun, ← fresh) made.2)

@@ -164,9 +164,9 @@ module _ (j : Job) (p : Proper j) where
   counts_good_lem : counts_good k ≡ true
   unfolding counts_good
   counts_good_lem =
-      and_true (le-leb _ _ (some_rows j.tasks p.some-tasks))
-      (and_true (le-leb _ _ p.most-rows)
-      (and_true (le-leb _ _ p.most-channels) (and_true (le-leb _ _ p.some-tasks) (and_true (le-leb _ _ p.most-tasks) (eq-eqb k.back k.back refl)))))
+      and_true (le-leb _ _ (some_rows j.tasks p.some_tasks))
+      (and_true (le-leb _ _ p.most_rows)
+      (and_true (le-leb _ _ p.most_channels) (and_true (le-leb _ _ p.some_tasks) (and_true (le-leb _ _ p.most_tasks) (eq-eqb k.back k.back refl)))))
 
   reads : Holds (rows_in rs) 0 (rows_t j.tasks 0)
   reads = written_holds rs 0 (rows_t j.tasks 0) (written j p)

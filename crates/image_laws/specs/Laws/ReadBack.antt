@@ -13,6 +13,7 @@ use Rattle.meaning.specs.Text.{Job}
 use Rattle.meaning.specs.Image.{row_no, Rows, chan_no, task_no}
 use Rattle.meaning.specs.Layout.{rows_t, first_rows}
 use Rattle.meaning.specs.Bytes.{fields_of, port_of, statement_of, row_size, trailer_size, image_mark, image_version, two, bytes_of, row_bytes, first_bytes, span_of, trailer, image_bytes, job_image, byte_at, two_of, two_at, trailer_of, row_count, channel_count, task_count, distance, mark_of, version_of, body_of, fields_at, fields_of_row, rows_in, capacity_in, first_row_in, tabulate, rows_of, capacities_of, first_rows_of}
+use Rattle.image_row.specs.Row.{owed_after}
 use Rattle.image_check.specs.Sound.{PortSound}
 use Rattle.meaning_laws.specs.Lists.{All}
 use Rattle.image_laws.specs.Proper.{Proper}
@@ -125,7 +126,7 @@ rows_there rows top channels few declared rs owed i (x ∷ xs) post h e =
     let behind = further rs (row_size * i) row_size (row_size * suc i) (bytes_of (fields_of x)) (row_bytes xs ++ post) refl (omega arith) e in (
       fields_there rs i (fields_of x) (row_bytes xs ++ post) (fit rows top channels few declared owed i x h.0) e,
       statement_back rows top channels few declared owed i x h.0,
-      rows_there rows top channels few declared rs _ (suc i) xs post h.1 behind,
+      rows_there rows top channels few declared rs (owed_after owed x) (suc i) xs post h.1 behind,
     )
 
 -- CAPACITIES AND FIRST ROWS, from number i on behind a place of the image rs
@@ -201,14 +202,14 @@ module _ (j : Job) where
     written =
         let channels = length j.capacities in
         let laid = laid_t (list_rows rows) (length rows) channels j.tasks 0 p.bodies (omega arith) (holds_self rows) 0 in
-        rows_there (list_rows rows) (length rows) channels p.most-rows p.most-channels (job_image j) 0 0 rows ((j.capacities ++ first_bytes firsts) ++ end) laid rows_at
+        rows_there (list_rows rows) (length rows) channels p.most_rows p.most_channels (job_image j) 0 0 rows ((j.capacities ++ first_bytes firsts) ++ end) laid rows_at
 
     firsts_fit : All (λ r. r.0 < word_end) firsts
     firsts_fit = fits firsts (firsts_aim (list_rows rows) (length rows) (length j.capacities) j.tasks 0 (omega arith) (holds_self rows))
       where
         fits : (rs : List Row) → All (Aim (list_rows rows) (length rows) (length j.capacities)) rs → All (λ r. r.0 < word_end) rs
         fits [] a = tt
-        fits (r ∷ rs) a = (omega (arith, a.0.below, p.most-rows), fits rs a.1)
+        fits (r ∷ rs) a = (omega (arith, a.0.below, p.most_rows), fits rs a.1)
 
     pub firsts_tabulated : tabulate (λ t. first_row_in (job_image j) (length (rows_t j.tasks 0)) (length j.capacities) (task_no t)) (length j.tasks) 0 ≡ first_rows j.tasks 0
     firsts_tabulated = rw (← first_rows-length j.tasks 0) (firsts_there (job_image j) (length rows) (length j.capacities) 0 firsts end firsts_fit (rw add-zero firsts_at))
@@ -243,14 +244,14 @@ module _ (pre : List ℕ) (j : Job) where
   module _ (p : Proper j) where
     pub row_count_back : row_count (pre ++ job_image j) ≡ length (rows_t j.tasks 0)
     unfolding row_count
-    row_count_back = ap (λ t. two_at t 0) trailer_back ∙ two_back (length (rows j)) (omega (arith, p.most-rows))
+    row_count_back = ap (λ t. two_at t 0) trailer_back ∙ two_back (length (rows j)) (omega (arith, p.most_rows))
 
     pub distance_back : distance (pre ++ job_image j) ≡ span_of (length (rows_t j.tasks 0)) (length j.capacities) (length j.tasks)
     unfolding distance
     distance_back =
         let n = first_rows-length j.tasks 0 in
         let z : span_of (length (rows j)) (length j.capacities) (length (firsts j)) ≡ span j = omega arith in
-        ap (λ t. two_at t 4) trailer_back ∙ two_back _ (omega (arith, p.most-rows, p.most-channels, p.most-tasks)) ∙ z
+        ap (λ t. two_at t 4) trailer_back ∙ two_back _ (omega (arith, p.most_rows, p.most_channels, p.most_tasks)) ∙ z
 
     pub body_of_back : body_of (pre ++ job_image j) ≡ job_image j
     unfolding body_of

@@ -13,7 +13,7 @@ start_as-requires c = λ g.
     let bs = c.args.image.now in
     let k = c.counts_in in
     let z : k.result.tasks ≡ task_count bs = ap (λ k. k.tasks) (k.ensures ∙ ap counts_in c.trailer_of.ensures) in
-    omega (arith, z, (good_sound bs (sym c.check-answer.ensures ∙ g)).most-tasks)
+    omega (arith, z, (good_sound bs (sym c.check-answer.ensures ∙ g)).most_tasks)
 
 pub returns : goal.returns
 unfolding started counts_of

@@ -15,7 +15,7 @@ unfolding turned counts_of
 returns c =
     let a = c.args in
     let bs = a.image.now in
-    let known = c.well-formed.1.1.0 in
+    let known = c.well_formed.1.1.0 in
     let z = records_sized a.s.words a.s.cells in
     let check = c.check-answer.ensures in
     let body = c.body_of.ensures in

@@ -5,16 +5,16 @@ pub returns-in-Refused : goal.returns-in-Refused
 returns-in-Refused c = rw (c.in-Refused.is, c.refuse.ensures)
 
 pub step-requires : goal.step-requires
-step-requires c = sym c.before.before.fits2.ensures ∙ c.if-fits.true
+step-requires c = sym c.fits.ensures ∙ c.if-fits.true
 
 pub returns-then-fits : goal.returns-then-fits
 returns-then-fits c =
     let good = c.in-Good.is in
-    let fits = c.before.before.before.fits2.ensures in
+    let fits = c.fits.ensures in
     rw (good, c.step.ensures, ← fits, c.if-fits.true)
 
 pub returns : goal.returns
 returns c =
     let good = c.in-Good.is in
-    let fits = c.before.before.fits2.ensures in
+    let fits = c.fits.ensures in
     rw (good, c.refuse-2.ensures, ← fits, c.if-fits.false)

@@ -73,7 +73,7 @@ module _ (bs : List ℕ) where
     unfolding counts_of counts_in row_count channel_count
     at_first =
         let n = task_count bs in
-        take_table _ n task_limit 0 (good_sound bs good).most-tasks
+        take_table _ n task_limit 0 (good_sound bs good).most_tasks
         ∙ table_same (λ t. fresh_task (first_row t)) (λ t. fresh_task (cond (ltb t n) (first_row t) (row_no 0))) n 0 (λ t a l. rw (lt-ltb t n (omega arith)))
 
     first_fresh : Fresh bs first

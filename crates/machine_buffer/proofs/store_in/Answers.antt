@@ -12,21 +12,21 @@ returns-in-Keep c = rw c.in-Keep.is
 pub returns-in-Append : goal.returns-in-Append
 unfolding changed
 returns-in-Append c =
-    let ch = c.change-1.given in
+    let ch = c.in-Append in
     let b = c.args.values.now in
-    ap (set b (ch.0.0.0 % 16)) c.append.ensures ∙ ap (changed b) (sym ch.1)
+    ap (set b (ch.c.0 % 16)) c.append.ensures ∙ ap (changed b) (sym ch.is)
 
 pub returns-in-Take : goal.returns-in-Take
 unfolding changed
 returns-in-Take c =
-    let ch = c.change-in-Take-1.given in
+    let ch = c.in-Take in
     let b = c.args.values.now in
-    ap (set b (ch.0.0.0 % 16)) c.shift.ensures ∙ ap (changed b) (sym ch.1)
+    ap (set b (ch.c.0 % 16)) c.shift.ensures ∙ ap (changed b) (sym ch.is)
 
 pub returns-in-Refill : goal.returns-in-Refill
 unfolding changed
 returns-in-Refill c =
-    let ch = c.change-in-Refill-1.given in
+    let ch = c.in-Refill in
     let b = c.args.values.now in
-    ap (set b (ch.0.0.0 % 16)) c.refill.ensures
-    ∙ refill_law b ch.0.0 ch.0.1.0 ch.0.1.1.0 ∙ ap (changed b) (sym ch.1)
+    ap (set b (ch.c.0 % 16)) c.refill.ensures
+    ∙ refill_law b ch.c ch.len ch.v ∙ ap (changed b) (sym ch.is)

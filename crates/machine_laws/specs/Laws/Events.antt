@@ -173,7 +173,7 @@ module _ (bs : List ℕ) (sound : Sound bs) (s : Records) (b : Values) (a : Arra
       (all_weaken (λ t. t.0 < s.taskcount) (λ t. t.0 < no_partner) (order_of s) (λ t h. omega (arith, h, few)) (order_named bs sound s b a f))
 
   chan_told : (c : Chan) → c.0 < channel_count bs → PortNumbered (On c)
-  chan_told c h = omega (arith, h, sound.most-channels)
+  chan_told c h = omega (arith, h, sound.most_channels)
 
   module _ (me : Task) (x : TaskState) where
     send_to_told : (p : Port) (v : ℕ) (next : Row) → PortSound (channel_count bs) p → EachTold rs s me (r.send_to rs rows s p v next)
@@ -216,7 +216,7 @@ module _ (bs : List ℕ) (sound : Sound bs) (s : Records) (b : Values) (a : Arra
       chosen_told [] choice h = default_told rs s me e
       chosen_told (j ∷ js) choice h =
           let n : ℕ = get_or (j ∷ js) (choice % length (j ∷ js)) 0 in
-          let below : n < rows = all_get (λ i. i < rows) (j ∷ js) (choice % length (j ∷ js)) 0 h (omega (arith, sound.some-rows)) in
+          let below : n < rows = all_get (λ i. i < rows) (j ∷ js) (choice % length (j ∷ js)) 0 h (omega (arith, sound.some_rows)) in
           case_told n (rows_in rs (row_no n)) (sound.statements n below)
 
     act_told : (choice : ℕ) (st : Statement) → StatementSound rs rows (channel_count bs) x.row.0 st

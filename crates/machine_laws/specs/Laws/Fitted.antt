@@ -225,8 +225,8 @@ module _ (bs : List ℕ) (sound : Sound bs) (s : Records) (b : Values) (a : Arra
         fault = leb-true _ _ e3.0;
         waiting = w;
         names = λ i h. name_is i (omega arith) (passes (name_fits k s) s.waiting e5.0 i h);
-        lengths = λ c h. length_is c (omega (arith, sound.most-channels)) (passes (length_fits rs k s) k.channels e6.0 c h);
-        tasks = λ i h. task_is i (omega (arith, sound.most-tasks)) (passes (task_fits rs k s) k.tasks e6.1 i h);
+        lengths = λ c h. length_is c (omega (arith, sound.most_channels)) (passes (length_fits rs k s) k.channels e6.0 c h);
+        tasks = λ i h. task_is i (omega (arith, sound.most_tasks)) (passes (task_fits rs k s) k.tasks e6.1 i h);
       }
 
   are_tests : Tests → fitting rs (counts_of bs) s ≡ true
@@ -239,11 +239,11 @@ module _ (bs : List ℕ) (sound : Sound bs) (s : Records) (b : Values) (a : Arra
       (join (leb s.waiting task_limit) _ (le-leb _ _ t.waiting)
       (join (every (name_fits k s) s.waiting 0) _ (pass (name_fits k s) s.waiting (λ i h. is_name i (omega (arith, t.waiting)) (t.names i h)))
       (join (every (length_fits rs k s) k.channels 0) (every (task_fits rs k s) k.tasks 0)
-      (pass (length_fits rs k s) k.channels (λ c h. is_length c (omega (arith, sound.most-channels)) (t.lengths c h)))
-      (pass (task_fits rs k s) k.tasks (λ i h. is_task i (omega (arith, sound.most-tasks)) (t.tasks i h))))))))
+      (pass (length_fits rs k s) k.channels (λ c h. is_length c (omega (arith, sound.most_channels)) (t.lengths c h)))
+      (pass (task_fits rs k s) k.tasks (λ i h. is_task i (omega (arith, sound.most_tasks)) (t.tasks i h))))))))
 
   few : s.taskcount ≡ task_count bs → s.taskcount ≤ task_limit
-  few e = omega (arith, e, sound.most-tasks)
+  few e = omega (arith, e, sound.most_tasks)
 
   order_length : s.waiting ≤ task_limit → length (order_of s) ≡ s.waiting
   order_length h = simp length-take (omega (arith, a.order16))

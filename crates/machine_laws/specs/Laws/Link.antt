@@ -108,7 +108,7 @@ module _ (bs : List ℕ) (sound : Sound bs) (s : Records) (b : Values) (a : Arra
   standings = map standing_of (take s.taskcount s.tasks)
 
   pub few_tasks : s.taskcount ≤ task_limit
-  few_tasks = omega (arith, f.taskcount, sound.most-tasks)
+  few_tasks = omega (arith, f.taskcount, sound.most_tasks)
 
   tasks_most : length standings ≤ s.taskcount
   tasks_most = omega (arith, length-map (take s.taskcount s.tasks) standing_of, length-take s.taskcount s.tasks)
@@ -148,7 +148,7 @@ module _ (bs : List ℕ) (sound : Sound bs) (s : Records) (b : Values) (a : Arra
     declared = omega (arith, h, capacity_count bs)
 
     few : length caps ≤ channel_limit
-    few = omega (arith, capacity_count bs, sound.most-channels)
+    few = omega (arith, capacity_count bs, sound.most_channels)
 
     kept_is : kept c ≡ get_or s.chans c.0 blank_chan
     kept_is = chan_is caps s b a c declared few

@@ -69,7 +69,7 @@ module _ (bs : List ℕ) (sound : Sound bs) (s : Records) (b : Values) (f : Fres
       ∙ sym (ap (map standing) (map-tabulate (spot (replicate depth_limit 0)) first_row (task_count bs) 0) ∙ map-tabulate standing _ (task_count bs) 0)
 
   few : length (capacities_of bs) ≤ channel_limit
-  few = omega (arith, capacity_count bs, sound.most-channels)
+  few = omega (arith, capacity_count bs, sound.most_channels)
 
   fresh_channels : channels_of (capacities_of bs) s.chans b ≡ map open_channel (capacities_of bs)
   fresh_channels = ap (λ l. channels_of (capacities_of bs) l b) f.chans ∙ open_channels (capacities_of bs) channel_limit b few (omega (arith, few, a.rows16))
@@ -88,7 +88,7 @@ module _ (bs : List ℕ) (sound : Sound bs) (s : Records) (b : Values) (f : Fres
   fresh_lengths : (c : ℕ) → c < channel_count bs → (get_or s.chans c blank_chan).len ≡ 0
   fresh_lengths c h =
       ap (λ (l : List ChanState). (get_or l c blank_chan).len) f.chans
-      ∙ ap (λ (k : ChanState). k.len) (get_or-replicate channel_limit c blank_chan blank_chan (omega (arith, h, sound.most-channels)))
+      ∙ ap (λ (k : ChanState). k.len) (get_or-replicate channel_limit c blank_chan blank_chan (omega (arith, h, sound.most_channels)))
 
   fresh_fit : Fit bs s b
   fresh_fit = record {

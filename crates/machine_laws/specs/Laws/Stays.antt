@@ -274,7 +274,7 @@ module _ (bs : List ℕ) (sound : Sound bs) (s : Records) (b : Values) (a : Arra
   unfolding view_in
   lengths_within c h l =
       let n = capacity_count bs in
-      let i = sound.most-channels in
+      let i = sound.most_channels in
       let caps : List ℕ = capacities_of bs in
       let kept : ChanState = chan_in s.chans (chan_no c) in
       let row : List ℕ = row_for b (chan_no c) in

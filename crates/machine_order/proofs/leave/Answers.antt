@@ -17,14 +17,14 @@ pub loop-i-preserved-then-t-x : goal.loop-i-preserved-then-t-x
 loop-i-preserved-then-t-x c =
     let l = c.loop-i in
     let a = c.args in
-    let k = leave_keeps a.t (records_in a.words.now a.cells.now).order l.auto l.w l.i _ (order_length a.words.now a.cells.now) (search rules) c.name_at-x.ensures l.invariant.1.1.1.1.0 l.invariant.1.1.1.1.1 c.if-t-x.true in
+    let k = leave_keeps a.t (records_in a.words.now a.cells.now).order l.kept l.w l.i _ (order_length a.words.now a.cells.now) (search rules) c.name_at-x.ensures l.invariant.1.1.1.1.0 l.invariant.1.1.1.1.1 c.if-t-x.true in
     (search rules, (l.invariant.1.0, (search rules, (l.invariant.1.1.1.0, k))))
 
 pub loop-i-preserved : goal.loop-i-preserved
 loop-i-preserved c =
     let l = c.loop-i in
     let a = c.args in
-    let k = leave_drops a.t (records_in a.words.now a.cells.now).order l.auto l.w l.i _ (order_length a.words.now a.cells.now) (search rules) c.name_at-x.ensures l.invariant.1.1.1.1.0 l.invariant.1.1.1.1.1 c.if-t-x.false in
+    let k = leave_drops a.t (records_in a.words.now a.cells.now).order l.kept l.w l.i _ (order_length a.words.now a.cells.now) (search rules) c.name_at-x.ensures l.invariant.1.1.1.1.0 l.invariant.1.1.1.1.1 c.if-t-x.false in
     (search rules, (l.invariant.1.0, (search rules, (l.invariant.1.1.1.0, k))))
 
 pub returns : goal.returns

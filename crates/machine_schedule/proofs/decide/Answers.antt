@@ -9,7 +9,7 @@ returns-in-Refused c = rw (← c.check.ensures, c.in-Refused.is)
 pub returns-then-fits : goal.returns-then-fits
 unfolding outcome counts_of
 returns-then-fits c =
-    let fits = c.before.before.fits2.ensures in
+    let fits = c.fits.ensures in
     let counts = c.counts_in.ensures in
     let trailer = c.trailer_of.ensures in
     let body = c.body_of.ensures in
@@ -20,7 +20,7 @@ returns-then-fits c =
 pub returns : goal.returns
 unfolding outcome counts_of
 returns c =
-    let fits = c.before.fits2.ensures in
+    let fits = c.fits.ensures in
     let counts = c.counts_in.ensures in
     let trailer = c.trailer_of.ensures in
     let body = c.body_of.ensures in

@@ -22,37 +22,29 @@ bounds-pairs-i-in-loop-i c =
     omega (arith, c.loop-i-test.true, c.loop-i.invariant.1.0, c.requires.even)
 
 pub overflow_mul-i : goal.overflow_mul-i
-overflow_mul-i c =
-    let entry = lap.before.before.before.before.before.before.before.before in
-    omega (arith, lap.loop-test.true, entry.requires.room, entry.well-formed.1.1.1.1.1.0)
+overflow_mul-i c = omega (arith, c.loop-i-test.true, c.requires.room)
 
 pub overflow_add-i : goal.overflow_add-i
-overflow_add-i c =
-    let entry = lap.before.before.before.before.before.before.before.before in
-    omega (arith, lap.loop-test.true, entry.well-formed.1.1.1.1.0.1)
+overflow_add-i c = omega (arith, c.loop-i-test.true)
 
 pub loop-i-preserved : goal.loop-i-preserved
 unfolding counts_of
 loop-i-preserved c =
-    let stepped-at = c in
-    let lap = stepped-at.before.before.before.before.before.before in
-    let counted = lap.before.before in
-    let entry = counted.before.before.before.before.before.before in
-    let a = entry.args in
+    let a = c.args in
     let bs = a.image.now in
     let ps = a.pairs.now in
-    let l = lap.before.loop in
+    let l = c.loop-i in
     let i = l.i in
-    let step = stepped-at.step_in in
-    let body = counted.before.before.body_of.ensures in
-    let counts : counted.counts-in.result ≡ counts_of bs = counted.counts-in.ensures ∙ ap counts_in counted.before.trailer-of.ensures in
-    let more : i + 1 < length ps = omega (arith, lap.loop-test.true, l.invariant.1.0, entry.requires.even) in
-    let made : MadeTurn l.words l.cells step.new.1.1.0 step.new.1.1.1.0 step.result
+    let step = c.step_in-m in
+    let body = c.body_of-body.ensures in
+    let counts : c.counts_in-k.result ≡ counts_of bs = c.counts_in-k.ensures ∙ ap counts_in c.trailer_of.ensures in
+    let more : i + 1 < length ps = omega (arith, c.loop-i-test.true, l.invariant.1.0, c.requires.even) in
+    let made : MadeTurn l.words l.cells step.new.words step.new.cells step.result
     (λ z. stepped (body_of bs) (counts_of bs).rows z l.values (task_no (get_or ps i 0)) (get_or ps (i + 1) 0))
     = rw (← body, ← counts) step.ensures in
-    let turn = ahead_lap _ _ _ _ _ _ entry.requires.good l.words l.cells l.values l.records i l.invariant.1.1 more _ _ in
-    let ahead = turn words.words_size.ensures c.cells_size-c.ensures step.result made in
-    (omega (arith, more), (omega (arith, l.invariant.1.0), ahead entry.requires.room _ c.store_in.ensures _ c.put_record.ensures))
+    let turn = ahead_lap _ _ _ _ _ _ c.requires.good l.words l.cells l.values l.records i l.invariant.1.1 more _ _ in
+    let ahead = turn c.words_size-w.ensures c.cells_size-c.ensures step.result made in
+    (omega (arith, more), (omega (arith, l.invariant.1.0), ahead c.requires.room _ c.store_in.ensures _ c.put_record.ensures))
 
 pub returns : goal.returns
 returns c =

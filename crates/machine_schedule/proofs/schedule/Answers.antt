@@ -6,17 +6,16 @@ use Rattle.machine_schedule.proofs.schedule.Goals as goal
 
 pub run_in-requires : goal.run_in-requires
 run_in-requires c =
-    let entry = decided.before.before.before.before.before.before.before.before in
-    let a = entry.args in
-    let begun = done_begun a.image.now a.s (length a.pairs.now) (length a.records.now) _ decided.decide.ensures _ done.enum-told2.given.1 in
+    let a = c.args in
+    let begun = done_begun a.image.now a.s (length a.pairs.now) (length a.records.now) _ c.decide-outcome.ensures _ c.in-Done.is in
     record {
       good = begun.good;
       fit = begun.fit;
-      c = words.words_size.ensures;
-      c = cells.cells-size.ensures;
-      c = c.values_size-v.ensures;
+      words = c.words_size-w.ensures;
+      cells = c.cells_size-c.ensures;
+      values = c.values_size-v.ensures;
       even = eqb-true _ _ begun.even;
-      room = room_for _ _ begun.enough (omega (arith, entry.well-formed.1.1.1.1.0.1));
+      room = room_for _ _ begun.enough (omega arith);
     }
 
 pub returns-in-Refused : goal.returns-in-Refused
@@ -27,5 +26,5 @@ returns-in-Refused c =
 pub returns-in-Done : goal.returns-in-Done
 returns-in-Done c =
     let a = c.args in
-    let left = left_turned a.image.now a.s a.values.now a.pairs.now a.records.now _ decided.decide.ensures _ in
-    left done.enum-told2.given.1 _ _ _ _ c.run_in.ensures
+    let left = left_turned a.image.now a.s a.values.now a.pairs.now a.records.now _ c.decide-outcome.ensures _ in
+    left c.in-Done.is _ _ _ _ c.run_in.ensures

@@ -5,5 +5,5 @@ use Rattle.machine_schedule.proofs.values_long.Goals as goal
 
 pub returns : goal.returns
 returns c =
-    let known = c.well-formed.0 in
+    let known = c.well_formed.0 in
     record { rows = search (rules, length_mapped, known); cells = rows-length c.args.a _ known }

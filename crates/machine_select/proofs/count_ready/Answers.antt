@@ -12,7 +12,7 @@ use Rattle.machine_select.proofs.count_ready.Goals as goal
 
 pub loop-i-init : goal.loop-i-init
 unfolding ready_rows
-loop-i-init c = (search rules, (search rules, (omega (arith, c.well-formed.1.1.1.1.1.0), simp (sub-zero, add-zero) (sym (zero-add _)))))
+loop-i-init c = (search rules, (search rules, (omega arith, simp (sub-zero, add-zero) (sym (zero-add _)))))
 
 pub loop-i-preserved-then-row_ready : goal.loop-i-preserved-then-row_ready
 loop-i-preserved-then-row_ready c =

@@ -11,7 +11,7 @@ use Rattle.machine_select.proofs.nth_ready.Goals as goal
 
 pub loop-i-init : goal.loop-i-init
 unfolding ready_rows
-loop-i-init c = (search rules, (omega (arith, c.well-formed.1.1.1.1.1.0), simp (sub-zero, add-zero)))
+loop-i-init c = (search rules, (omega arith, simp (sub-zero, add-zero)))
 
 pub returns-then-left-eq0 : goal.returns-then-left-eq0
 returns-then-left-eq0 c =

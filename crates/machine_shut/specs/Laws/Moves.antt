@@ -103,20 +103,20 @@ module _ (rs : List ℕ) (c : Chan) (s z : Records) (before : List ℕ) (b : Beg
 
   pub walked_keeps : f ≡ Miss.Nowhere → WalkedSo rs c s xs₀ xs (set kept w t) (w + 1) (i + 1)
   walked_keeps e =
-      let k = lap_keeps (idle rs s c) s.order no_tasks kept w i (task_no 0) (omega (arith, small, long)) (omega (arith, small)) p.kept-are p.kept-count (idle_is true (none_offered (waits_at rs s Receiving c t) (misses ∙ e))) in
+      let k = lap_keeps (idle rs s c) s.order no_tasks kept w i (task_no 0) (omega (arith, small, long)) (omega (arith, small)) p.kept_are p.kept_count (idle_is true (none_offered (waits_at rs s Receiving c t) (misses ∙ e))) in
       record {
         kept_are = ap (set kept w) (sym here) ∙ k.0;
         kept_count = k.1;
-        woken_are = p.woken-are ∙ woken_lap rs s c long i t xs within named ∙ ap (woken_tasks rs s c (drop (i + 1) (order_of s))) (none_woken rs s c t xs (waits_at rs s Receiving c t) (misses ∙ e));
+        woken_are = p.woken_are ∙ woken_lap rs s c long i t xs within named ∙ ap (woken_tasks rs s c (drop (i + 1) (order_of s))) (none_woken rs s c t xs (waits_at rs s Receiving c t) (misses ∙ e));
       }
 
   pub walked_wakes : (miss : Row) → f ≡ Miss.To miss → (new : List TaskState) → new ≡ set xs (t.0 % 16) (got_task (task_in xs t) 0 false miss) → WalkedSo rs c s xs₀ new kept w (i + 1)
   walked_wakes miss e new en =
-      let k = lap_drops (idle rs s c) s.order no_tasks kept w i (task_no 0) (omega (arith, small, long)) (omega (arith, small)) p.kept-are p.kept-count (idle_is false (some_offered (waits_at rs s Receiving c t) miss (misses ∙ e))) in
+      let k = lap_drops (idle rs s c) s.order no_tasks kept w i (task_no 0) (omega (arith, small, long)) (omega (arith, small)) p.kept_are p.kept_count (idle_is false (some_offered (waits_at rs s Receiving c t) miss (misses ∙ e))) in
       record {
         kept_are = k.0;
         kept_count = k.1;
-        woken_are = p.woken-are ∙ woken_lap rs s c long i t xs within named ∙ ap (woken_tasks rs s c (drop (i + 1) (order_of s))) (some_woken rs s c t xs (waits_at rs s Receiving c t) miss (misses ∙ e) ∙ sym en);
+        woken_are = p.woken_are ∙ woken_lap rs s c long i t xs within named ∙ ap (woken_tasks rs s c (drop (i + 1) (order_of s))) (some_woken rs s c t xs (waits_at rs s Receiving c t) miss (misses ∙ e) ∙ sym en);
       }
 
 -- All but the tasks' records is as it was.
@@ -132,13 +132,13 @@ module _ (rs : List ℕ) (c : Chan) (s : Records) (before w₀ x₀ w x w' x' : 
 
   all_woken : woken_tasks rs s c (order_of s) (records_in w₀ x₀).tasks ≡ (records_in w x).tasks
   unfolding woken_tasks
-  all_woken = p.woken-are ∙ ap (λ ts. woken_tasks rs s c ts (records_in w x).tasks) (drop_of_length-le (order_of s) {i = i} (omega (arith, whole, length-take (s.waiting % 17) s.order)))
+  all_woken = p.woken_are ∙ ap (λ ts. woken_tasks rs s c ts (records_in w x).tasks) (drop_of_length-le (order_of s) {i = i} (omega (arith, whole, length-take (s.waiting % 17) s.order)))
 
   order_are : kept ≡ over (keep (idle rs s c) (order_of s)) no_tasks
-  order_are = p.kept-are ∙ ap (λ m. over (keep (idle rs s c) (take m s.order)) no_tasks) whole
+  order_are = p.kept_are ∙ ap (λ m. over (keep (idle rs s c) (take m s.order)) no_tasks) whole
 
   order_count : n ≡ length (keep (idle rs s c) (order_of s))
-  order_count = p.kept-count ∙ ap (λ m. length (keep (idle rs s c) (take m s.order))) whole
+  order_count = p.kept_count ∙ ap (λ m. length (keep (idle rs s c) (take m s.order))) whole
 
   pub walked_all : (m : ℕ) → m ≡ i - n → WokenSo rs c s w₀ x₀ w' x' m
   walked_all m em = record {

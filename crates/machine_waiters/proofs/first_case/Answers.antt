@@ -13,7 +13,7 @@ use borrow.Author.Rules.{rules}
 use Rattle.machine_waiters.proofs.first_case.Goals as goal
 
 pub loop-i-init : goal.loop-i-init
-loop-i-init c = (search rules, (omega (arith, c.well-formed.1.1.1.1.0), simp (sub-zero, add-zero)))
+loop-i-init c = (search rules, (omega arith, simp (sub-zero, add-zero)))
 
 pub returns-then-case_serves : goal.returns-then-case_serves
 returns-then-case_serves c = sym (c.loop-i.invariant.1.1 ∙ serving_lap c.args.body.now c.args.side c.args.c c.args.k c.loop-i.i (c.args.row.0 + 1) (search rules) ∙ taken_by (λ z. is_on c.args.c (port_of z.chan)) c.head_at-h.result (head_of c.args.body.now (c.args.row.0 + 1 + c.loop-i.i)) c.is_on.result _ _ c.head_at-h.ensures c.is_on.ensures c.if-is_on.true ∙ taken_by (λ z. case_serves c.args.side z.op) c.head_at-h.result (head_of c.args.body.now (c.args.row.0 + 1 + c.loop-i.i)) c.case_serves.result _ _ c.head_at-h.ensures c.case_serves.ensures c.if-case_serves.true)

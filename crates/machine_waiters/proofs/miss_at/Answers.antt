@@ -25,4 +25,4 @@ pub returns-in-11 : goal.returns-in-11
 returns-in-11 c = ap miss_of (offer_at c.args.body.now c.args.n c.fields_no-f.result c.fields_no-f.ensures 11 c.in-11.is)
 
 pub returns-in_default : goal.returns-in_default
-returns-in_default c = ap miss_of (offer_none c.args.body.now c.args.n c.fields_no-f.result c.fields_no-f.ensures c.in_default.rest.0.0.0.0.0.0.1 c.in_default.rest.0.0.0.0.0.1 c.in_default.rest.0.0.0.0.1 c.in_default.rest.0.0.0.1 c.in_default.rest.0.0.1 c.in_default.rest.0.1 c.in_default.rest.1)
+returns-in_default c = ap miss_of (offer_none c.args.body.now c.args.n c.fields_no-f.result c.fields_no-f.ensures c.in_default.in_default-own.rest.0.0.0.0.0.0.1 c.in_default.in_default-own.rest.0.0.0.0.0.1 c.in_default.in_default-own.rest.0.0.0.0.1 c.in_default.in_default-own.rest.0.0.0.1 c.in_default.in_default-own.rest.0.0.1 c.in_default.in_default-own.rest.0.1 c.in_default.in_default-own.rest.1)

@@ -4,16 +4,16 @@ use Rattle.text_heads.proofs.read_head.Goals as goal
 
 pub returns-then-not-is_statement : goal.returns-then-not-is_statement
 unfolding head_by
-returns-then-not-is_statement c = rw (← c.word_at-w.ensures, ← c.is_statement.ensures, not-true c.is_statement.result c.if-not-is_statement.true)
+returns-then-not-is_statement c = rw (← c.word_at-w.ensures, ← c.is_statement.ensures, c.if-not-is_statement.true)
 
 pub returns-then-is_too_deep : goal.returns-then-is_too_deep
 unfolding head_by
-returns-then-is_too_deep c = rw (← c.word_at-w.ensures, ← c.is_statement.ensures, not-false c.is_statement.result c.if-not-is_statement.false, ← c.is_too_deep.ensures, c.if-is_too_deep.true)
+returns-then-is_too_deep c = rw (← c.word_at-w.ensures, ← c.is_statement.ensures, c.if-not-is_statement.false, ← c.is_too_deep.ensures, c.if-is_too_deep.true)
 
 pub returns-then-rows-ge-ROWS : goal.returns-then-rows-ge-ROWS
 unfolding head_by
-returns-then-rows-ge-ROWS c = rw (← c.word_at-w.ensures, ← c.is_statement.ensures, not-false c.is_statement.result c.if-not-is_statement.false, ← c.is_too_deep.ensures, c.if-is_too_deep.false, le-ltb _ _ c.if-rows-ge-ROWS.true)
+returns-then-rows-ge-ROWS c = rw (← c.word_at-w.ensures, ← c.is_statement.ensures, c.if-not-is_statement.false, ← c.is_too_deep.ensures, c.if-is_too_deep.false, le-ltb _ _ c.if-rows-ge-ROWS.true)
 
 pub returns : goal.returns
 unfolding head_by
-returns c = rw (← c.word_at-w.ensures, ← c.is_statement.ensures, not-false c.is_statement.result c.if-not-is_statement.false, ← c.is_too_deep.ensures, c.if-is_too_deep.false, lt-ltb _ _ c.if-rows-ge-ROWS.false) c.read_operands.ensures
+returns c = rw (← c.word_at-w.ensures, ← c.is_statement.ensures, c.if-not-is_statement.false, ← c.is_too_deep.ensures, c.if-is_too_deep.false, lt-ltb _ _ c.if-rows-ge-ROWS.false) c.read_operands.ensures

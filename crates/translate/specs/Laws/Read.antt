@@ -49,9 +49,9 @@ module _ (s : List ℕ) where
         let l = image_size s t in
         let m = in_limits s t in
         let p = job_parts s j t.at rows (words_read s j t.at rows t.read) in
-        let b = firsts_bytes j.tasks tasks (q ∙ firsts_are s out t) t.tasks-are m.2 in
-        joined j out p.counted-rows t.channels-are t.tasks-are (omega arith) (e ∙ rows_there s out t h) refl
-        (ap (sets _ (row_size * rows + channels)) b) (f j.capacities p.from 0 p.chans t.channels-are)
+        let b = firsts_bytes j.tasks tasks (q ∙ firsts_are s out t) t.tasks_are m.2 in
+        joined j out p.counted_rows t.channels_are t.tasks_are (omega arith) (e ∙ rows_there s out t h) refl
+        (ap (sets _ (row_size * rows + channels)) b) (f j.capacities p.from 0 p.chans t.channels_are)
 
     pub translated_as : (out : List ℕ) {new : List ℕ} → span_of rows channels tasks + trailer_size ≤ length out → new ≡ sets out 0 (job_image t.job)
         → (Image (span_of rows channels tasks + trailer_size) ≡ translated s (length out)) × (new ≡ written s out)

@@ -172,11 +172,11 @@ module _ (ns : List ℕ) where
         → rows_put out line (case_rows cs i j) ≡ all → rows_put new (line + 1) (case_rows t.rest (i + (get_or ns (3 * r + 2) 0 - 1)) j) ≡ all
     unfolding case_rows
     cases_next out line i j e a =
-        let n = t.n-is in
+        let n = t.n_is in
         let q : get_or ns (3 * r + 2) 0 - 1 ≡ size_b t.one = omega arith in
         let p : line + 1 ≡ suc line = omega arith in
         let x = Case t.op (entry t.one i j) in
-        let f = e ∙ put_as out line x (case_fields_lem t.op t.one i j (get_or ns (3 * r) 0) t.low-is t.high_is t.arg_is n) in
+        let f = e ∙ put_as out line x (case_fields_lem t.op t.one i j (get_or ns (3 * r) 0) t.low_is t.high_is t.arg_is n) in
         let w = ap (λ (c : Cases). rows_put out line (case_rows c i j)) (sym t.whole) in
         rw (f, q, p) (rows_put_cons x (case_rows t.rest (i + size_b t.one) j) out line ∙ w ∙ a)
 
@@ -185,7 +185,7 @@ module _ (ns : List ℕ) where
         → rows_put new (i + (get_or ns (3 * r + 2) 0 - 1)) (rows_c t.rest d (i + (get_or ns (3 * r + 2) 0 - 1)) j) ≡ all
     unfolding rows_c
     bodies_next out i j e a =
-        let n = t.n-is in
+        let n = t.n_is in
         let q : get_or ns (3 * r + 2) 0 - 1 ≡ size_b t.one = omega arith in
         let xs = rows_b t.one d i j in
         let ys = rows_c t.rest d (i + size_b t.one) j in
@@ -226,7 +226,7 @@ module _ (ns : List ℕ) where
   pub cases_room : (r left line i : ℕ) → CasesThere ns r left line i → 0 < left → Room r (get_or ns (3 * r + 2) 0) row_limit i × (line < row_limit)
   cases_room r left line i y l =
       let w = case_lap y.0 y.1 r left y.2 l in
-      let n = w.n-is in
+      let n = w.n_is in
       let p = w.counts in
       let q = w.size in
       (record { some = omega arith; within = omega arith; limit = omega arith; stands = omega arith }, omega arith)
@@ -234,7 +234,7 @@ module _ (ns : List ℕ) where
   pub bodies_room : (r left e i : ℕ) → BodiesThere ns r left e i → 0 < left → Room r (get_or ns (3 * r + 2) 0) e i
   bodies_room r left e i y l =
       let w = case_lap y.0 y.1 r left y.2 l in
-      let n = w.n-is in
+      let n = w.n_is in
       let p = w.counts in
       let q = w.size in
       record { some = omega arith; within = omega arith; limit = omega arith; stands = omega arith }
@@ -277,8 +277,8 @@ module _ (ns : List ℕ) where
       → rows_put new (i + get_or ns (3 * r + 2) 0) (rows_b t.rest d (i + get_or ns (3 * r + 2) 0) j) ≡ all
   unfolding rows_b
   body_next {d = d} {r = r} {e = e} t out i j f h a =
-      let n = t.stmt-is.1 in
-      let m = t.rest-is.1 in
+      let n = t.stmt_is.1 in
+      let m = t.rest_is.1 in
       let z = (entry t.rest (i + size_s t.one) j).0 in
       let g = f ∙ first_is t.rest (i + size_s t.one) j (omega arith) (ap (i +◌) n) in
       let xs = rows_s t.one d i z in
@@ -296,7 +296,7 @@ module _ (ns : List ℕ) where
   body_room r e i y l =
       let w = body_lap y.0 y.1 r e y.2 l in
       let n = w.some in
-      let p = w.rest-is.1 in
+      let p = w.rest_is.1 in
       let q = w.size in
       record { some = omega arith; within = omega arith; limit = omega arith; stands = omega arith }
 

@@ -40,19 +40,19 @@ module _ (s : List ℕ) where
     in_limits =
         let p = reading_proper s t.job t.at rows t.read in
         let q = p.1 in
-        let a = p.0.most-rows in
-        let b = p.0.most-channels in
-        let c = p.0.most-tasks in
-        let d = t.channels-are in
-        let e = t.tasks-are in
+        let a = p.0.most_rows in
+        let b = p.0.most_channels in
+        let c = p.0.most_tasks in
+        let d = t.channels_are in
+        let e = t.tasks_are in
         (omega arith, omega arith, omega arith)
 
     pub image_size : length (job_image t.job) ≡ span_of rows channels tasks + trailer_size
     image_size =
-        let d = t.channels-are in
-        let e = t.tasks-are in
+        let d = t.channels_are in
+        let e = t.tasks_are in
         let l = accepted_length s t.job t.at rows t.read in
         omega arith
 
     pub job_rows : rows ≡ length (rows_t t.job.tasks 0)
-    job_rows = (job_parts s t.job t.at rows (words_read t.job t.at rows t.read)).counted-rows
+    job_rows = (job_parts s t.job t.at rows (words_read t.job t.at rows t.read)).counted_rows

@@ -39,7 +39,7 @@ loop-n-preserved c = (
       let f = w.left_is in
       let p : w.fewer ≡ channel_limit - (c.loop-n.n + 1) = omega arith in
       let l : length z.0 ≡ suc (length w.rest) = ap length w.whole in
-      (w.rest, rw (← p, u.1) w.rest-is, omega arith, lap_capacities w _ _ c.loop-n.n u.0 c.put_byte.ensures ∙ z.3),
+      (w.rest, rw (← p, u.1) w.rest_is, omega arith, lap_capacities w _ _ c.loop-n.n u.0 c.put_byte.ensures ∙ z.3),
 )
 
 pub returns : goal.returns

@@ -101,7 +101,7 @@ pub +lay-bodies-lay-body-lay-stmt-spec : {M : Type 1} → statement M
     let t = c.before.before.loop-test.true in
     let y = l.invariant.2 in
     let w = case_lap _ y.0 y.1 l.r l.left y.2 t in
-    let n = w.n-is in
+    let n = w.n_is in
     let s = w.size in
     let f = w.counts in (omega (arith, c), (w.one, y.1, (w.body_is, omega arith), omega arith, omega arith)))
     (λ c.
@@ -121,21 +121,21 @@ pub +lay-bodies-lay-body-lay-stmt-spec : {M : Type 1} → statement M
     let t = c₁.loop-test.true in
     let y = l.invariant.2 in
     let w = case_lap _ y.0 y.1 l.r l.left y.2 t in
-    let n = w.n-is in
+    let n = w.n_is in
     let s = w.size in
     let f = w.counts in (
       omega arith,
       c.before.before.lay-body.auto.1.1.1.1.1.0 ∙ l.invariant.1,
-      (w.rest, y.1, (w.rest-is, omega (arith, w.count)), omega arith, omega arith, omega arith),
+      (w.rest, y.1, (w.rest_is, omega (arith, w.count)), omega arith, omega arith, omega arith),
       λ cs d h e.
           let z = l.invariant.3 cs d h e in
           let v = case_lap _ z.0 d l.r l.left z.1 t in
-          let k = v.n-is in
+          let k = v.n_is in
           let o = v.size in
           let g = v.counts in
           let x = z.2 in
           let b = c.before.before.lay-body.ensures v.one d (v.body_is, omega arith) in
-          (v.rest, (v.rest-is, omega (arith, v.count)), omega arith, bodies_next _ v l.out l.i _ b z.3),
+          (v.rest, (v.rest_is, omega (arith, v.count)), omega arith, bodies_next _ v l.out l.i _ b z.3),
     ))
     (λ c κs.
     let l = c.before.before.loop in
@@ -179,7 +179,7 @@ pub +lay-bodies-lay-body-lay-stmt-spec : {M : Type 1} → statement M
     let w = body_lap _ y.0 y.1 l.r _ y.2 t in
     let s = w.size in
     let f = w.some in
-    let g = w.rest-is.1 in (omega (arith, c), (w.one, y.1, w.stmt-is, omega arith, omega arith)))
+    let g = w.rest_is.1 in (omega (arith, c), (w.one, y.1, w.stmt_is, omega arith, omega arith)))
     (λ c.
     let c₁ = c.before.before.before.before.before.before in
     omega (arith, body_room _ _ _ _ c₁.before.loop.invariant.2 c₁.loop-test.true))
@@ -191,15 +191,15 @@ pub +lay-bodies-lay-body-lay-stmt-spec : {M : Type 1} → statement M
     let w = body_lap _ y.0 y.1 l.r _ y.2 t in
     let s = w.size in
     let f = w.some in
-    let g = w.rest-is.1 in (
+    let g = w.rest_is.1 in (
       omega arith,
       c.before.before.lay-stmt.auto.1.1.1.1.1.0 ∙ l.invariant.1,
-      (w.rest, y.1, w.rest-is, omega arith, omega arith),
+      (w.rest, y.1, w.rest_is, omega arith, omega arith),
       λ b d h.
           let z = l.invariant.3 b d h in
           let v = body_lap _ z.0 d l.r _ z.1 t in
-          let one = c.before.before.lay-stmt.ensures v.one d v.stmt-is in
-          (v.rest, v.rest-is, body_next _ v l.out l.i _ c₁.following.ensures one z.2),
+          let one = c.before.before.lay-stmt.ensures v.one d v.stmt_is in
+          (v.rest, v.rest_is, body_next _ v l.out l.i _ c₁.following.ensures one z.2),
     ))
     (λ c. search rules)
     (λ c.

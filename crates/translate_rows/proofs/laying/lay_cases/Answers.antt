@@ -55,15 +55,15 @@ loop-left-preserved c =
     let t = c.loop-left-test.true in
     let y = l.invariant.1 in
     let w = case_lap _ y.0 y.1 l.r l.left y.2 t in
-    let n = w.n-is in
+    let n = w.n_is in
     let s = w.size in
     let f = w.counts in (
       c.put_case.auto.0 ∙ l.invariant.0,
-      (w.rest, y.1, (w.rest-is, omega (arith, w.count)), omega arith, omega arith, omega arith),
+      (w.rest, y.1, (w.rest_is, omega (arith, w.count)), omega arith, omega arith, omega arith),
       λ cs d h.
           let z = l.invariant.2 cs d h in
           let v = case_lap _ z.0 d l.r l.left z.1 t in
-          (v.rest, (v.rest-is, omega (arith, v.count)), cases_next _ v l.out l.line l.i _ c.put_case.ensures z.2),
+          (v.rest, (v.rest_is, omega (arith, v.count)), cases_next _ v l.out l.line l.i _ c.put_case.ensures z.2),
     )
 
 pub returns : goal.returns

@@ -236,7 +236,7 @@ pub +read-block-read-body-read-case-read-cases-read-ifok-read-last-read-second-r
       λ k b a q h e.
           let z = loop.invariant.2 k b a q h e in
           let w = lap _ _ _ loop.at loop.rows r.given.1 read-stmt.ensures.0 z.0 z.2 z.3 in
-          (w.steps, w.rest, w.enough', w.rest-is, lap_noted w _ (read-stmt.ensures.1 w.steps w.one _ _ w.enough w.is) ∙ z.4),
+          (w.steps, w.rest, w.enough', w.rest_is, lap_noted w _ (read-stmt.ensures.1 w.steps w.one _ _ w.enough w.is) ∙ z.4),
     ))
     (λ c. search rules)
     (λ c. let loop = c.before.before.before.before.loop in
@@ -326,7 +326,7 @@ pub +read-block-read-body-read-case-read-cases-read-ifok-read-last-read-second-r
           let w = case_lap k _ _ _ (case_limit - loop.n) loop.at loop.rows (omega arith) r.given.1 read-case.ensures.0 z.1 in
           let f = w.left_is in
           let p : w.fewer ≡ case_limit - (loop.n + 1) = omega arith in
-          (w.rest, rw (← p) w.rest-is, lines_noted w _ (read-case.ensures.1 k w.op w.one _ _ (omega arith) w.is) ∙ z.2),
+          (w.rest, rw (← p) w.rest_is, lines_noted w _ (read-case.ensures.1 k w.op w.one _ _ (omega arith) w.is) ∙ z.2),
     ))
     (λ c. search rules)
     (λ c. let loop = c.before.before.before.before.loop in
@@ -485,7 +485,7 @@ pub +read-block-read-body-read-case-read-cases-read-ifok-read-last-read-second-r
       λ k h. bind_done _ _ _ c.before.before.last.given.1 (cases_told _ _ _ _ _ k (read-cases.ensures.0 k h) behind.given.1 (read-last.ensures.0 k (omega arith))) (λ cs. c.read-end.ensures (select cs)),
       λ k d x a r q h e.
           let w = chosen k _ _ _ _ _ h behind.given.1 read-cases.ensures.0 e in
-          let y = read-last.ensures.1 k (behind_cases w.cases) w.end w.total (omega arith) w.last-is in
+          let y = read-last.ensures.1 k (behind_cases w.cases) w.end w.total (omega arith) w.last_is in
           select_noted d _ _ w _ q (omega (arith, pre.1)) (omega (arith, pre.1)) h (read-cases.ensures.1 k w.cases _ _ h w.is) y,
     )))
     λ t. read-stmt-lts.spec (
