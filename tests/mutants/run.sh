@@ -21,7 +21,7 @@ cd "$(dirname "$0")/../.." || exit 2
 root=$(pwd -P)
 here=$root/tests/mutants
 work=$root/target/mutants
-worked='^[a-z_]*/specs/laws/Examples\.antt:\|^agreement/specs/laws/Table\.antt:'
+worked='^[a-z_]*/specs/Laws/Examples\.antt:\|^agreement/specs/Laws/Table\.antt:'
 command -v rt >/dev/null || { echo "rt, the command of the Rattle kit, is not on the path" >&2; exit 2; }
 RT_JOBS=${RT_JOBS:-1}
 RT_CUT=0
