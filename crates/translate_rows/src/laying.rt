@@ -46,7 +46,7 @@ fn lay_cases(
 }
 
 // The bodies of so many cases noted from row `from` on, and what is noted behind them up to row end, the default's.
-#[cycle(lay_bodies_lay_body_lay_stmt)]
+#[cycle(laying)]
 fn lay_bodies(
     notes: &[u16; NOTES],
     from: u16,
@@ -73,7 +73,7 @@ fn lay_bodies(
 }
 
 // The statement of so many rows noted at row r: its row, then what is inside it.
-#[cycle(lay_bodies_lay_body_lay_stmt)]
+#[cycle(laying)]
 fn lay_stmt(notes: &[u16; NOTES], r: u16, size: u16, i: Row, after: Row, out: &mut [u8])
     requires { StmtThere notes.now r size i.0 }
     ensures { StmtStored notes.now r size i.0 after.0 out.old out.new }
@@ -105,7 +105,7 @@ fn lay_stmt(notes: &[u16; NOTES], r: u16, size: u16, i: Row, after: Row, out: &m
 }
 
 // The body noted from row `from` up to row end.
-#[cycle(lay_bodies_lay_body_lay_stmt)]
+#[cycle(laying)]
 pub(crate) fn lay_body(
     notes: &[u16; NOTES],
     from: u16,

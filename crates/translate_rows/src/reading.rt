@@ -30,7 +30,7 @@ const SELECT_OP: u8 = 8;
 pub(crate) const STOP_HEAD: u16 = 12;
 
 // A body and the `end` of its block, whose row and note are told.
-#[cycle(read_block_read_body_read_case_read_cases_read_ifok_read_last_read_second_read_select_read_stmt)]
+#[cycle(reading)]
 fn read_block(
     text: &[u8],
     channels: u8,
@@ -54,7 +54,7 @@ fn read_block(
 }
 
 // Behind the first body of the ifok at a row: `else` and a second, or none.
-#[cycle(read_block_read_body_read_case_read_cases_read_ifok_read_last_read_second_read_select_read_stmt)]
+#[cycle(reading)]
 fn read_second(
     text: &[u8],
     channels: u8,
@@ -81,7 +81,7 @@ fn read_second(
 }
 
 // The inside of ifok, whose row is the one ahead.
-#[cycle(read_block_read_body_read_case_read_cases_read_ifok_read_last_read_second_read_select_read_stmt)]
+#[cycle(reading)]
 fn read_ifok(
     text: &[u8],
     channels: u8,
@@ -101,7 +101,7 @@ fn read_ifok(
 }
 
 // `case`, its operation and its body, where so many cases are left; nothing where no `case` stands.
-#[cycle(read_block_read_body_read_case_read_cases_read_ifok_read_last_read_second_read_select_read_stmt)]
+#[cycle(reading)]
 fn read_case(
     text: &[u8],
     channels: u8,
@@ -128,7 +128,7 @@ fn read_case(
 }
 
 // The cases of a select, counted: the place behind the last one, where `default` or `end` is due.
-#[cycle(read_block_read_body_read_case_read_cases_read_ifok_read_last_read_second_read_select_read_stmt)]
+#[cycle(reading)]
 fn read_cases(
     text: &[u8],
     channels: u8,
@@ -161,7 +161,7 @@ fn read_cases(
 }
 
 // Behind the n cases of the select at a row: `default` and its body, or nothing; and the note of the select.
-#[cycle(read_block_read_body_read_case_read_cases_read_ifok_read_last_read_second_read_select_read_stmt)]
+#[cycle(reading)]
 fn read_last(
     text: &[u8],
     channels: u8,
@@ -192,7 +192,7 @@ fn read_last(
 }
 
 // The inside of select, whose row is the one ahead.
-#[cycle(read_block_read_body_read_case_read_cases_read_ifok_read_last_read_second_read_select_read_stmt)]
+#[cycle(reading)]
 fn read_select(
     text: &[u8],
     channels: u8,
@@ -226,7 +226,7 @@ fn read_select(
 }
 
 // One statement; nothing where no statement begins.
-#[cycle(read_block_read_body_read_case_read_cases_read_ifok_read_last_read_second_read_select_read_stmt)]
+#[cycle(reading)]
 fn read_stmt(
     text: &[u8],
     channels: u8,
@@ -280,7 +280,7 @@ fn read_stmt(
 }
 
 // The statements from a place on, up to the first word that begins none.
-#[cycle(read_block_read_body_read_case_read_cases_read_ifok_read_last_read_second_read_select_read_stmt)]
+#[cycle(reading)]
 pub(crate) fn read_body(
     text: &[u8],
     channels: u8,

@@ -24,20 +24,18 @@ returns-in-Refused c =
 pub returns-then-length-image : goal.returns-then-length-image
 returns-then-length-image c =
     let args = c.args in
-    let reading = c.reading-1 in
     let read = c.read-reading in
-    let t = is_job args.text.now reading.given.1 read.ensures.0 in
+    let t = is_job args.text.now c.in-Job.is read.ensures.0 in
     let n = read.ensures.1 t.job t.at _ t.read in
     let bs = t.job.tasks in
     let l = (in_limits _ t).0 in
     let h = job_held bs _ n.0 (search rules) (job_rows _ t) l in
-    (sym reading.given.1 ∙ read.ensures.0, n.1 ∙ sym (firsts_are _ args.image.now t), job_stored bs _ _ (c.lay_body.ensures (all_of bs) 0 h) ∙ sym (rows_there _ args.image.now t c.if-length-image.true))
+    (sym c.in-Job.is ∙ read.ensures.0, n.1 ∙ sym (firsts_are _ args.image.now t), job_stored bs _ _ (c.lay_body.ensures (all_of bs) 0 h) ∙ sym (rows_there _ args.image.now t c.if-length-image.true))
 
 pub returns-else-length-image : goal.returns-else-length-image
 returns-else-length-image c =
     let args = c.args in
-    let reading = c.reading-1 in
     let read = c.read-reading in
-    let t = is_job args.text.now reading.given.1 read.ensures.0 in
+    let t = is_job args.text.now c.in-Job.is read.ensures.0 in
     let n = read.ensures.1 t.job t.at _ t.read in
-    (sym reading.given.1 ∙ read.ensures.0, n.1 ∙ sym (firsts_are _ args.image.now t), sym (rows_short _ args.image.now t c.if-length-image.false))
+    (sym c.in-Job.is ∙ read.ensures.0, n.1 ∙ sym (firsts_are _ args.image.now t), sym (rows_short _ args.image.now t c.if-length-image.false))

@@ -29,7 +29,7 @@ loop-n-smaller c = omega arith
 pub loop-n-preserved : goal.loop-n-preserved
 loop-n-preserved c = (
   omega arith,
-  c.put_byte.auto.0 ∙ c.loop-n.invariant.1,
+  c.put_byte.auto.out ∙ c.loop-n.invariant.1,
   λ ns a t e q.
       let z = c.loop-n.invariant.2 ns a t e q in
       let y = z.2 in

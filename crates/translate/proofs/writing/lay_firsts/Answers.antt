@@ -40,7 +40,7 @@ loop-t-preserved c =
     let loop = c.loop-t in
     let n : length args.firsts ≡ task_limit = search rules in (
       omega arith,
-      put_two.auto.0 ∙ loop.invariant.1,
+      put_two.auto.out ∙ loop.invariant.1,
       firsts_lap args.firsts loop.out args.base args.tasks loop.t c.loop-t-test.true (omega arith) refl put_two.ensures ∙ loop.invariant.2,
     )
 

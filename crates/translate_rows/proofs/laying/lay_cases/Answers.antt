@@ -58,7 +58,7 @@ loop-left-preserved c =
     let n = w.n_is in
     let s = w.size in
     let f = w.counts in (
-      c.put_case.auto.0 ∙ l.invariant.0,
+      c.put_case.auto.out ∙ l.invariant.0,
       (w.rest, y.1, (w.rest_is, omega (arith, w.count)), omega arith, omega arith, omega arith),
       λ cs d h.
           let z = l.invariant.2 cs d h in

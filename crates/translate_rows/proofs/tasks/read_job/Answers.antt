@@ -22,7 +22,6 @@ returns-in-Refused-read_tasks c =
 pub returns-else-tasks-eq0 : goal.returns-else-tasks-eq0
 returns-else-tasks-eq0 c =
     let read-chans = c.read_chans in
-    let from = c.from-1 in
     let read-tasks = c.read_tasks in
     let args = c.args in
-    (job_done _ read-chans.ensures from.given.1 read-tasks.ensures.0 c.in-Done-read_tasks.is c.if-tasks-eq0.false, job_noted args.text.now args.notes.now _ args.firsts.now _ from.given.1 read-chans.ensures read-tasks.ensures.1)
+    (job_done _ read-chans.ensures c.in-Done.is read-tasks.ensures.0 c.in-Done-read_tasks.is c.if-tasks-eq0.false, job_noted args.text.now args.notes.now _ args.firsts.now _ c.in-Done.is read-chans.ensures read-tasks.ensures.1)

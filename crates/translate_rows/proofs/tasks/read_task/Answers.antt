@@ -26,12 +26,10 @@ pub returns : goal.returns
 returns c =
     let args = c.args in
     let read-task-head = c.read_task_head-head in
-    let head = c.head-1 in
-    let body = c.body-1 in
     let read-body = c.read_body-body in (
-      rw (task_begun args.text.now args.channels args.at args.rows args.left read-task-head.ensures head.given.1) (bind_done _ _ _ body.given.1 (read-body.ensures.0 (suc row_limit) (omega arith)) (λ b. c.read_task_end.ensures b)),
+      rw (task_begun args.text.now args.channels args.at args.rows args.left read-task-head.ensures c.in-Done.is) (bind_done _ _ _ c.in-Done-body.is (read-body.ensures.0 (suc row_limit) (omega arith)) (λ b. c.read_task_end.ensures b)),
       λ b a r e.
-          let w = bind_told _ _ body.given.1 (read-body.ensures.0 (suc row_limit) (omega arith)) (sym (task_begun args.text.now args.channels args.at args.rows args.left read-task-head.ensures head.given.1) ∙ e) in
+          let w = bind_told _ _ c.in-Done-body.is (read-body.ensures.0 (suc row_limit) (omega arith)) (sym (task_begun args.text.now args.channels args.at args.rows args.left read-task-head.ensures c.in-Done.is) ∙ e) in
           let q = end_got args.text.now args.channels w.0 _ _ w.2 in
           task_noted args.text.now args.channels _ args.rows w.0 b _ w.1 q (read-body.ensures.1 (suc row_limit) w.0 _ _ (omega arith) w.1) c.note.ensures,
       end_some args.text.now args.channels _ _ _ _ c.read_task_end.ensures,
