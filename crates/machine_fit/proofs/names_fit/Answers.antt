@@ -14,7 +14,7 @@ use Rattle.machine_fit.proofs.names_fit.Goals as goal
 
 pub loop-i-init : goal.loop-i-init
 loop-i-init c =
-    let z : (t : ℕ) → get_or c.args.named.now t 0 ≡ 0 = λ t. rw c.requires.1 (fresh_cell 16 t) in
+    let z : (t : ℕ) → get_or c.args.named.now t 0 ≡ 0 = λ t. rw c.requires.fresh (fresh_cell 16 t) in
     (search rules, search rules, search rules, λ t. omega (arith, z t), simp sub-zero, λ h t b. omega (arith, z t))
 
 pub returns-then-k-t : goal.returns-then-k-t
@@ -23,7 +23,7 @@ returns-then-k-t c =
     let l = c.loop-i in
     let a = c.args in
     let step = every_step (name_fits a.k (records_in a.words.now a.cells.now)) a.n l.i (search rules) in
-    (rw (l.invariant.4, step, ← c.name_at-t.ensures, le-ltb _ _ c.if-k-t.true), λ e h t b. cc)
+    record { fit = rw (l.invariant.4, step, ← c.name_at-t.ensures, le-ltb _ _ c.if-k-t.true); counted = λ e h t b. cc }
 
 pub overflow_add-named : goal.overflow_add-named
 overflow_add-named c =
@@ -54,4 +54,4 @@ returns c =
     let a = c.args in
     let e : a.n - l.i ≡ 0 = omega arith in
     let past = times_past a.words.now a.cells.now a.n l.i (omega arith) in
-    (rw (l.invariant.4, e), λ q h t b. omega (arith, past (task_no t), l.invariant.5 h t b))
+    record { fit = rw (l.invariant.4, e); counted = λ q h t b. omega (arith, past (task_no t), l.invariant.5 h t b) }

@@ -18,7 +18,7 @@ loop-i-preserved c =
     let a = c.args in
     let s = records_in a.words.now a.cells.now in
     let step = every_step (task_fits a.body.now a.k s) a.k.tasks l.i (search rules) in
-    let w : s.waiting % 17 ≡ a.n = omega (arith, c.requires.1.0) in
+    let w : s.waiting % 17 ≡ a.n = omega (arith, c.requires.all) in
     let x = c.task_at-x.ensures in
     (search rules, rw (l.invariant.1, step, w, ← c.times_of-times.ensures, ← x, ← c.task_fits.ensures, c.if-task_fits.true))
 
@@ -29,7 +29,7 @@ returns-else-task_fits c =
     let a = c.args in
     let s = records_in a.words.now a.cells.now in
     let step = every_step (task_fits a.body.now a.k s) a.k.tasks l.i (search rules) in
-    let w : s.waiting % 17 ≡ a.n = omega (arith, c.requires.1.0) in
+    let w : s.waiting % 17 ≡ a.n = omega (arith, c.requires.all) in
     let x = c.task_at-x.ensures in
     rw (l.invariant.1, step, w, ← c.times_of-times.ensures, ← x, ← c.task_fits.ensures, c.if-task_fits.false)
 

@@ -8,4 +8,4 @@ returns c =
     let a = c.args in
     let p = c.requires in
     let m : a.t.0 % 16 ≡ a.t.0 = omega arith in
-    rw m (p.1.0 (omega arith) a.t.0 (omega arith))
+    rw m (p.counted (omega arith) a.t.0 (omega arith))

@@ -5,7 +5,7 @@ use Rattle.machine_fit.proofs.walks_fit.Goals as goal
 pub tasks_fit-requires : goal.tasks_fit-requires
 tasks_fit-requires c =
     let p = c.requires in
-    (p.0, (p.1, c.names_fit.ensures.1 c.if-names_fit.true))
+    record { waiting = p.waiting; all = p.all; counted = c.names_fit.ensures.counted c.if-names_fit.true }
 
 pub returns-then-lengths_fit : goal.returns-then-lengths_fit
 returns-then-lengths_fit c =
@@ -13,7 +13,7 @@ returns-then-lengths_fit c =
     let s = records_in a.words.now a.cells.now in
     let names = c.names_fit in
     let lengths = c.lengths_fit in
-    tasks_tell a.body.now a.k s a.n names.result c.requires.1 names.ensures.0 c.if-names_fit.true
+    tasks_tell a.body.now a.k s a.n names.result c.requires.all names.ensures.fit c.if-names_fit.true
     lengths.result lengths.ensures c.if-lengths_fit.true c.tasks_fit.result c.tasks_fit.ensures
 
 pub returns-then-names_fit : goal.returns-then-names_fit
@@ -22,7 +22,7 @@ returns-then-names_fit c =
     let s = records_in a.words.now a.cells.now in
     let names = c.names_fit in
     let lengths = c.lengths_fit in
-    lengths_fail a.body.now a.k s a.n names.result c.requires.1 names.ensures.0 c.if-names_fit.true
+    lengths_fail a.body.now a.k s a.n names.result c.requires.all names.ensures.fit c.if-names_fit.true
     lengths.result lengths.ensures c.if-lengths_fit.false
 
 pub returns : goal.returns
@@ -30,4 +30,4 @@ returns c =
     let a = c.args in
     let s = records_in a.words.now a.cells.now in
     let names = c.names_fit in
-    names_fail a.body.now a.k s a.n names.result c.requires.1 names.ensures.0 c.if-names_fit.false
+    names_fail a.body.now a.k s a.n names.result c.requires.all names.ensures.fit c.if-names_fit.false

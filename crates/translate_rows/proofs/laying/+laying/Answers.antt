@@ -7,7 +7,7 @@ use Rattle.translate_rows.specs.Laws.Laying.{stmt_room, if_room, select_room}
 use Rattle.translate_rows.proofs.laying.+laying.Goals as goal
 
 pub lay_bodies-loop-left-init : goal.lay_bodies-loop-left-init
-lay_bodies-loop-left-init t c = (omega arith, refl, c.requires.1, λ cs d h e. (cs, h, e, refl))
+lay_bodies-loop-left-init t c = (omega arith, refl, c.requires, λ cs d h e. (cs, h, e, refl))
 
 pub lay_bodies-overflow_mul-size : goal.lay_bodies-overflow_mul-size
 lay_bodies-overflow_mul-size t c = omega (arith, bodies_room _ _ _ _ _ c.loop-left.invariant.2 c.loop-left-test.true)
@@ -59,7 +59,7 @@ lay_bodies-loop-left-preserved t c =
     let s = w.size in
     let f = w.counts in (
       omega arith,
-      c.lay_body.auto.1.1.1.1.1.0 ∙ l.invariant.1,
+      c.lay_body.auto.out ∙ l.invariant.1,
       (w.rest, y.1, (w.rest_is, omega (arith, w.count)), omega arith, omega arith, omega arith),
       λ cs d h e.
           let z = l.invariant.3 cs d h e in
@@ -89,7 +89,7 @@ lay_bodies-returns t c =
     last_stored _ w _ _ _ (c.lay_body-2.ensures w.body d w.held) z.3
 
 pub lay_body-loop-r-init : goal.lay_body-loop-r-init
-lay_body-loop-r-init t c = (omega arith, refl, c.requires.1, λ b d h. (b, h, refl))
+lay_body-loop-r-init t c = (omega arith, refl, c.requires, λ b d h. (b, h, refl))
 
 pub lay_body-overflow_mul-size : goal.lay_body-overflow_mul-size
 lay_body-overflow_mul-size t c = omega (arith, body_room _ _ _ _ c.loop-r.invariant.2 c.loop-r-test.true)
@@ -136,7 +136,7 @@ lay_body-loop-r-preserved t c =
     let f = w.some in
     let g = w.rest_is.1 in (
       omega arith,
-      c.lay_stmt.auto.1.1.1.1.1.0 ∙ l.invariant.1,
+      c.lay_stmt.auto.out ∙ l.invariant.1,
       (w.rest, y.1, w.rest_is, omega arith, omega arith),
       λ b d h.
           let z = l.invariant.3 b d h in
@@ -153,38 +153,38 @@ lay_body-returns t c =
     body_done _ z.0 d l.r _ z.1 c.loop-r-test.false _ _ _ z.2
 
 pub lay_stmt-overflow_mul-at : goal.lay_stmt-overflow_mul-at
-lay_stmt-overflow_mul-at t c = omega (arith, stmt_room _ _ _ _ c.requires.1)
+lay_stmt-overflow_mul-at t c = omega (arith, stmt_room _ _ _ _ c.requires)
 
 pub lay_stmt-offset_bounds-notes-at : goal.lay_stmt-offset_bounds-notes-at
-lay_stmt-offset_bounds-notes-at t c = omega (arith, stmt_room _ _ _ _ c.requires.1)
+lay_stmt-offset_bounds-notes-at t c = omega (arith, stmt_room _ _ _ _ c.requires)
 
 pub lay_stmt-bounds-notes-at : goal.lay_stmt-bounds-notes-at
-lay_stmt-bounds-notes-at t c = omega (arith, stmt_room _ _ _ _ c.requires.1)
+lay_stmt-bounds-notes-at t c = omega (arith, stmt_room _ _ _ _ c.requires)
 
 pub lay_stmt-overflow_add-arg : goal.lay_stmt-overflow_add-arg
-lay_stmt-overflow_add-arg t c = omega (arith, stmt_room _ _ _ _ c.requires.1)
+lay_stmt-overflow_add-arg t c = omega (arith, stmt_room _ _ _ _ c.requires)
 
 pub lay_stmt-offset_bounds-notes-at-2 : goal.lay_stmt-offset_bounds-notes-at-2
-lay_stmt-offset_bounds-notes-at-2 t c = omega (arith, stmt_room _ _ _ _ c.requires.1)
+lay_stmt-offset_bounds-notes-at-2 t c = omega (arith, stmt_room _ _ _ _ c.requires)
 
 pub lay_stmt-bounds-notes-at-2 : goal.lay_stmt-bounds-notes-at-2
-lay_stmt-bounds-notes-at-2 t c = omega (arith, stmt_room _ _ _ _ c.requires.1)
+lay_stmt-bounds-notes-at-2 t c = omega (arith, stmt_room _ _ _ _ c.requires)
 
 pub lay_stmt-returns-then-size-le1 : goal.lay_stmt-returns-then-size-le1
 lay_stmt-returns-then-size-le1 t c = λ x d h. alone_stored _ x d _ _ h c.if-size-le1.true _ _ _ c.put_statement.ensures
 
 pub lay_stmt-overflow_add-first : goal.lay_stmt-overflow_add-first
-lay_stmt-overflow_add-first t c = omega (arith, stmt_room _ _ _ _ c.requires.1)
+lay_stmt-overflow_add-first t c = omega (arith, stmt_room _ _ _ _ c.requires)
 
 pub lay_stmt-overflow_add-r : goal.lay_stmt-overflow_add-r
-lay_stmt-overflow_add-r t c = omega (arith, stmt_room _ _ _ _ c.requires.1)
+lay_stmt-overflow_add-r t c = omega (arith, stmt_room _ _ _ _ c.requires)
 
 pub lay_stmt-overflow_add-r-then-op-lt7 : goal.lay_stmt-overflow_add-r-then-op-lt7
-lay_stmt-overflow_add-r-then-op-lt7 t c = omega (arith, stmt_room _ _ _ _ c.requires.1)
+lay_stmt-overflow_add-r-then-op-lt7 t c = omega (arith, stmt_room _ _ _ _ c.requires)
 
 pub lay_stmt-lay_body-requires : goal.lay_stmt-lay_body-requires
 lay_stmt-lay_body-requires t c =
-    let y = c.requires.1 in
+    let y = c.requires in
     let w = loop_held _ y.0 y.1 _ _ y.2 c.if-size-le1.false c.if-op-lt7.true in
     let s = w.size in
     (omega (arith, c.requires.0), (w.body, suc y.1, w.held, omega arith, omega arith))
@@ -200,26 +200,26 @@ pub lay_stmt-overflow_add-mid : goal.lay_stmt-overflow_add-mid
 lay_stmt-overflow_add-mid t c = omega (
       arith,
       if_room _ _ _ _
-          c.requires.1 c.if-op-eq7.true,
+          c.requires c.if-op-eq7.true,
     )
 
 pub lay_stmt-overflow_add-mid-then-op-eq7 : goal.lay_stmt-overflow_add-mid-then-op-eq7
 lay_stmt-overflow_add-mid-then-op-eq7 t c = omega (
       arith,
       if_room _ _ _ _
-          c.requires.1 c.if-op-eq7.true,
+          c.requires c.if-op-eq7.true,
     )
 
 pub lay_stmt-overflow_add-r-then-op-eq7 : goal.lay_stmt-overflow_add-r-then-op-eq7
 lay_stmt-overflow_add-r-then-op-eq7 t c = omega (
       arith,
       if_room _ _ _ _
-          c.requires.1 c.if-op-eq7.true,
+          c.requires c.if-op-eq7.true,
     )
 
 pub lay_stmt-lay_body-requires-then-op-eq7 : goal.lay_stmt-lay_body-requires-then-op-eq7
 lay_stmt-lay_body-requires-then-op-eq7 t c =
-    let y = c.requires.1 in
+    let y = c.requires in
     let w = if_held _ y.0 y.1 _ _ y.2 c.if-op-eq7.true in
     let s = w.size in
     let q = w.arg_is in
@@ -230,7 +230,7 @@ lay_stmt-overflow_add-r-then-op-eq7-2 t c =
     omega (
       arith,
       if_room _ _ _ _
-          c.requires.1 c.if-op-eq7.true,
+          c.requires c.if-op-eq7.true,
     )
 
 pub lay_stmt-overflow_add-first-then-op-eq7 : goal.lay_stmt-overflow_add-first-then-op-eq7
@@ -238,12 +238,12 @@ lay_stmt-overflow_add-first-then-op-eq7 t c =
     omega (
       arith,
       if_room _ _ _ _
-          c.requires.1 c.if-op-eq7.true,
+          c.requires c.if-op-eq7.true,
     )
 
 pub lay_stmt-lay_body-requires-then-op-eq7-2 : goal.lay_stmt-lay_body-requires-then-op-eq7-2
 lay_stmt-lay_body-requires-then-op-eq7-2 t c =
-    let y = c.requires.1 in
+    let y = c.requires in
     let w = if_held _ y.0 y.1 _ _ y.2 c.if-op-eq7.true in
     let s = w.size in
     let q = w.arg_is in
@@ -263,7 +263,7 @@ lay_stmt-overflow_add-start t c =
     omega (
       arith,
       select_room _ _ _ _
-          c.requires.1 c.if-size-le1.false c.if-op-lt7.false c.if-op-eq7.false,
+          c.requires c.if-size-le1.false c.if-op-lt7.false c.if-op-eq7.false,
     )
 
 pub lay_stmt-overflow_add-r-2 : goal.lay_stmt-overflow_add-r-2
@@ -271,12 +271,12 @@ lay_stmt-overflow_add-r-2 t c =
     omega (
       arith,
       select_room _ _ _ _
-          c.requires.1 c.if-size-le1.false c.if-op-lt7.false c.if-op-eq7.false,
+          c.requires c.if-size-le1.false c.if-op-lt7.false c.if-op-eq7.false,
     )
 
 pub lay_stmt-lay_cases-requires : goal.lay_stmt-lay_cases-requires
 lay_stmt-lay_cases-requires t c =
-    let y = c.requires.1 in
+    let y = c.requires in
     let w = select_held _ y.0 y.1 _ _ y.2 c.if-size-le1.false c.if-op-lt7.false c.if-op-eq7.false in
     let s = w.size in
     let q = w.held.1 in
@@ -287,7 +287,7 @@ lay_stmt-overflow_add-r-3 t c =
     omega (
       arith,
       select_room _ _ _ _
-          c.requires.1 c.if-size-le1.false c.if-op-lt7.false c.if-op-eq7.false,
+          c.requires c.if-size-le1.false c.if-op-lt7.false c.if-op-eq7.false,
     )
 
 pub lay_stmt-overflow_add-r-4 : goal.lay_stmt-overflow_add-r-4
@@ -295,12 +295,12 @@ lay_stmt-overflow_add-r-4 t c =
     omega (
       arith,
       select_room _ _ _ _
-          c.requires.1 c.if-size-le1.false c.if-op-lt7.false c.if-op-eq7.false,
+          c.requires c.if-size-le1.false c.if-op-lt7.false c.if-op-eq7.false,
     )
 
 pub lay_stmt-lay_bodies-requires : goal.lay_stmt-lay_bodies-requires
 lay_stmt-lay_bodies-requires t c =
-    let y = c.requires.1 in
+    let y = c.requires in
     let w = select_held _ y.0 y.1 _ _ y.2 c.if-size-le1.false c.if-op-lt7.false c.if-op-eq7.false in
     let s = w.size in
     let q = w.held.1 in

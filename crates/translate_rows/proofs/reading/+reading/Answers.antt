@@ -20,7 +20,7 @@ read_block-read_body-body-requires t c = (omega arith, tt)
 
 pub read_block-returns-in_default : goal.read_block-returns-in_default
 read_block-returns-in_default t c = let read-body = c.read_body-body in
-    (λ k f h. bind_stop _ _ (stops read-body.result c.in_default.keys2) (read-body.ensures.0 k h), stopped_block _ _ _ _ _ _ _ (stops read-body.result c.in_default.keys2) _ _ _ read-body.ensures.0)
+    (λ k f h. bind_stop _ _ (stops read-body.result c.in_default.not-Done) (read-body.ensures.0 k h), stopped_block _ _ _ _ _ _ _ (stops read-body.result c.in_default.not-Done) _ _ _ read-body.ensures.0)
 
 pub read_block-overflow_sub-so_far : goal.read_block-overflow_sub-so_far
 read_block-overflow_sub-so_far t c =
@@ -87,7 +87,7 @@ pub read_case-returns-in_default : goal.read_case-returns-in_default
 read_case-returns-in_default t c = let read-body = c.read_body-body in
     let args = c.args in
     let read-case-head = c.read_case_head in
-    stopped_case _ _ _ _ _ _ _ (stops read-body.result c.in_default.keys2) _ (let f = case_begun _ _ args.at args.rows args.left read-case-head.ensures c.in-Got.is in λ k h. case_got args.text.now args.channels args.at args.rows args.left read-case-head.ensures c.in-Got.is _ (read-body.ensures.0 k (omega (arith, f.1)))) (body_some _ _ _ _ _ _ _ read-body.ensures.0)
+    stopped_case _ _ _ _ _ _ _ (stops read-body.result c.in_default.not-Done) _ (let f = case_begun _ _ args.at args.rows args.left read-case-head.ensures c.in-Got.is in λ k h. case_got args.text.now args.channels args.at args.rows args.left read-case-head.ensures c.in-Got.is _ (read-body.ensures.0 k (omega (arith, f.1)))) (body_some _ _ _ _ _ _ _ read-body.ensures.0)
 
 pub read_case-overflow_sub-so_far : goal.read_case-overflow_sub-so_far
 read_case-overflow_sub-so_far t c =
@@ -174,7 +174,7 @@ read_ifok-read_body-body-requires t c = (omega (arith, c.requires), tt)
 
 pub read_ifok-returns-in_default : goal.read_ifok-returns-in_default
 read_ifok-returns-in_default t c = let read-body = c.read_body-body in
-    stopped_ifok _ _ _ _ _ c.args.notes.now _ (stops read-body.result c.in_default.keys2) (λ k h. bind_stop _ _ (stops read-body.result c.in_default.keys2) (read-body.ensures.0 k h))
+    stopped_ifok _ _ _ _ _ c.args.notes.now _ (stops read-body.result c.in_default.not-Done) (λ k h. bind_stop _ _ (stops read-body.result c.in_default.not-Done) (read-body.ensures.0 k h))
 
 pub read_ifok-overflow_sub-rows : goal.read_ifok-overflow_sub-rows
 read_ifok-overflow_sub-rows t c =
@@ -209,7 +209,7 @@ read_last-read_body-body-requires t c =
 pub read_last-returns-in_default : goal.read_last-returns-in_default
 read_last-returns-in_default t c = let read-body = c.read_body-body in
     let word_at = c.word_at-w in
-    stopped_last _ _ _ _ _ _ _ (stops read-body.result c.in_default.keys2) _ _ (λ k h. last_default _ _ _ _ _ word_at.ensures c.if-kind-eq-DEFAULT.true (read-body.ensures.0 k h))
+    stopped_last _ _ _ _ _ _ _ (stops read-body.result c.in_default.not-Done) _ _ (λ k h. last_default _ _ _ _ _ word_at.ensures c.if-kind-eq-DEFAULT.true (read-body.ensures.0 k h))
 
 pub read_last-overflow_sub-so_far : goal.read_last-overflow_sub-so_far
 read_last-overflow_sub-so_far t c =
@@ -301,7 +301,7 @@ read_select-returns-in_default t c =
     let args = c.args in
     let read-cases = c.read_cases in
     let read-last = c.read_last-last in
-    let g = cases_grow args.text.now args.channels args.depth args.at args.rows c.in-Done.is read-cases.ensures.0 in stopped_select _ _ _ _ _ args.notes.now _ (stops read-last.result c.in_default.keys2) (λ k h. bind_stop _ _ (stops read-last.result c.in_default.keys2) (cases_told _ _ _ _ _ k (read-cases.ensures.0 k h) c.in-Done.is (read-last.ensures.0 k (omega arith))))
+    let g = cases_grow args.text.now args.channels args.depth args.at args.rows c.in-Done.is read-cases.ensures.0 in stopped_select _ _ _ _ _ args.notes.now _ (stops read-last.result c.in_default.not-Done) (λ k h. bind_stop _ _ (stops read-last.result c.in_default.not-Done) (cases_told _ _ _ _ _ k (read-cases.ensures.0 k h) c.in-Done.is (read-last.ensures.0 k (omega arith))))
 
 pub read_select-returns-in-Refused : goal.read_select-returns-in-Refused
 read_select-returns-in-Refused t c =

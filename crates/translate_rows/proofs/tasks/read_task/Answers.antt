@@ -14,13 +14,13 @@ pub returns-in_default : goal.returns-in_default
 returns-in_default c =
     let args = c.args in
     let read-task-head = c.read_task_head-head in
-    stopped_task args.text.now args.channels args.at args.rows args.left _ _ (stops read-task-head.result c.in_default.keys2) (task_stop args.text.now args.channels args.at args.rows args.left read-task-head.ensures (stops read-task-head.result c.in_default.keys2)) (λ _. refl)
+    stopped_task args.text.now args.channels args.at args.rows args.left _ _ (stops read-task-head.result c.in_default.not-Done) (task_stop args.text.now args.channels args.at args.rows args.left read-task-head.ensures (stops read-task-head.result c.in_default.not-Done)) (λ _. refl)
 
 pub returns-in_default-body : goal.returns-in_default-body
 returns-in_default-body c =
     let read-body = c.read_body-body in
     let args = c.args in
-    let s = stops read-body.result c.in_default-body.keys2 in stopped_task args.text.now args.channels args.at args.rows args.left _ _ s (rw (task_begun args.text.now args.channels args.at args.rows args.left c.read_task_head-head.ensures c.in-Done.is) (bind_stop _ _ s (read-body.ensures.0 (suc row_limit) (omega arith)))) (body_some _ _ _ _ _ _ _ read-body.ensures.0)
+    let s = stops read-body.result c.in_default-body.not-Done in stopped_task args.text.now args.channels args.at args.rows args.left _ _ s (rw (task_begun args.text.now args.channels args.at args.rows args.left c.read_task_head-head.ensures c.in-Done.is) (bind_stop _ _ s (read-body.ensures.0 (suc row_limit) (omega arith)))) (body_some _ _ _ _ _ _ _ read-body.ensures.0)
 
 pub returns : goal.returns
 returns c =

@@ -43,7 +43,7 @@ loop-behind-preserved c =
           let w = task_lap _ _ (task_limit - loop.n) loop.at loop.rows z.0 c.in-Done.is read_task_lem.ensures.0 y.1 in
           let f = w.left_is in
           let p : w.fewer ≡ task_limit - (loop.n + 1) = omega arith in
-          (w.rest, rw (← p) w.rest-is, tasks_next w _ (read_task_lem.ensures.1 w.one _ _ w.is) ∙ y.2, firsts_next w _ loop.n ∙ y.3),
+          (w.rest, rw (← p) w.rest_is, tasks_next w _ (read_task_lem.ensures.1 w.one _ _ w.is) ∙ y.2, firsts_next w _ loop.n ∙ y.3),
     )
 
 pub returns-in-Nothing : goal.returns-in-Nothing
