@@ -13,7 +13,7 @@ use meaning::{Chan, Event, Status, Task};
 
 // A line: the first `len` of its bytes, newline included, with zeros behind. The longest is a channel's: a word of four bytes,
 // nineteen numbers of up to five digits, each behind a blank, and the newline.
-#[derive(Drop)]
+#[derive(Clone, Copy)]
 pub struct Line {
     pub bytes: [u8; 128],
     pub len: u8,

@@ -24,7 +24,7 @@ use meaning::{Chan, Task};
 
 // How far a listing has come: the answer, the place of the next pair in the schedule, and the machine. The values stand beside
 // it.
-#[derive(Drop)]
+#[derive(Clone, Copy)]
 pub struct Session {
     pub answer: Answer,
     pub at: usize,
@@ -32,7 +32,7 @@ pub struct Session {
 }
 
 // A line, the session behind it, and what its turn does to the values.
-#[derive(Drop)]
+#[derive(Clone, Copy)]
 pub struct Listed {
     pub line: Line,
     pub session: Session,

@@ -31,14 +31,14 @@ use meaning::{Event, Task};
 pub const UNFIT: u8 = 17;
 
 // A start's answer: the check's, and the fresh state; a state with no task where the image is refused.
-#[derive(Drop)]
+#[derive(Clone, Copy)]
 pub struct Started {
     pub answer: Checked,
     pub state: State,
 }
 
 // A turn's event, the state after it, and what it does to the values.
-#[derive(Drop)]
+#[derive(Clone, Copy)]
 pub struct Turned {
     pub event: Event,
     pub state: State,

@@ -45,7 +45,7 @@ pub const STATE_CELLS: usize = CHAN_COUNT + 1;
 
 // The state as its callers hold it. In one that fits an image a status is 0 to 2 and a mark 0 or 1, so that the cells hold nothing
 // but what the records tell; every turn keeps that.
-#[derive(Drop)]
+#[derive(Clone, Copy)]
 pub struct State {
     pub words: [u16; STATE_WORDS],
     pub cells: [u8; STATE_CELLS],

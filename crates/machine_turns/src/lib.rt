@@ -23,7 +23,7 @@ pub enum Outcome {
 }
 
 // The answer, and the state behind the last turn.
-#[derive(Drop)]
+#[derive(Clone, Copy)]
 pub struct Scheduled {
     pub outcome: Outcome,
     pub state: State,

@@ -40,7 +40,7 @@ pub enum Place {
 }
 
 // The bytes of a word: their key, and the place behind them.
-#[derive(Drop)]
+#[derive(Clone, Copy)]
 struct Letters {
     key: u64,
     next: usize,

@@ -14,4 +14,4 @@ returns c =
     let p = e.plain (fitting_parts a.body.now a.k a.s.words a.s.cells fits).0 in
     let words = c.words_size-w.ensures in
     let cells = c.cells_size-c.ensures in
-    turn_told n.new.1.1.0 n.new.1.1.1.0 words cells p n.result d e.same
+    turn_told n.new.words n.new.cells words cells p n.result d e.same

@@ -74,7 +74,6 @@ returns-in-12 c =
     let e = sym c.op_of-op.ensures ∙ c.in-12.is in
     rw (c.stop_good.ensures, stop_row_lem)
 
-
 pub returns-in-2 : goal.returns-in-2
 returns-in-2 c =
     let op = c.op_of-op.ensures in

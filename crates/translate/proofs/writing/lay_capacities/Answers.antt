@@ -5,14 +5,13 @@ use native.Mathlib.Nat.{add-zero}
 use lib.ListN.{length}
 use Rattle.meaning.specs.Numbers.{channel_limit, capacity_limit}
 use Rattle.translate.specs.Laws.Channels.{chan_lap, lap_capacities, nothing_left, number_within, same_number, no_number}
-use Rattle.translate.proofs.Stops.{not_number}
 use Rattle.translate.proofs.writing.lay_capacities.Goals as goal
 
 pub loop-n-init : goal.loop-n-init
 loop-n-init c = (omega arith, refl, λ ns a r e q. (ns, e, omega arith, rw add-zero))
 
 pub returns-in_default : goal.returns-in_default
-returns-in_default c = λ ns a r e q. let z = c.loop-n.invariant.2 ns a r e q in let y = z.2 in let k = c.loop-n-test.true in let t = chan_lap _ (channel_limit - c.loop-n.n) c.loop-n.at z.0 (omega arith) c.word_at-w.ensures z.1 in absurd (no_number _ capacity_limit _ c.read_number-r.result (not_number c.read_number-r.result c.in_default.keys2) c.read_number-r.ensures t.is)
+returns-in_default c = λ ns a r e q. let z = c.loop-n.invariant.2 ns a r e q in let y = z.2 in let k = c.loop-n-test.true in let t = chan_lap _ (channel_limit - c.loop-n.n) c.loop-n.at z.0 (omega arith) c.word_at-w.ensures z.1 in absurd (no_number _ capacity_limit _ c.read_number-r.result c.in_default.not-Got c.read_number-r.ensures t.is)
 
 pub overflow_add-base : goal.overflow_add-base
 overflow_add-base c = omega arith

@@ -198,24 +198,24 @@ lay_stmt-returns-then-op-lt7 t c =
 
 pub lay_stmt-overflow_add-mid : goal.lay_stmt-overflow_add-mid
 lay_stmt-overflow_add-mid t c = omega (
-      arith,
-      if_room _ _ _ _
-          c.requires c.if-op-eq7.true,
-    )
+  arith,
+  if_room _ _ _ _
+      c.requires c.if-op-eq7.true,
+)
 
 pub lay_stmt-overflow_add-mid-then-op-eq7 : goal.lay_stmt-overflow_add-mid-then-op-eq7
 lay_stmt-overflow_add-mid-then-op-eq7 t c = omega (
-      arith,
-      if_room _ _ _ _
-          c.requires c.if-op-eq7.true,
-    )
+  arith,
+  if_room _ _ _ _
+      c.requires c.if-op-eq7.true,
+)
 
 pub lay_stmt-overflow_add-r-then-op-eq7 : goal.lay_stmt-overflow_add-r-then-op-eq7
 lay_stmt-overflow_add-r-then-op-eq7 t c = omega (
-      arith,
-      if_room _ _ _ _
-          c.requires c.if-op-eq7.true,
-    )
+  arith,
+  if_room _ _ _ _
+      c.requires c.if-op-eq7.true,
+)
 
 pub lay_stmt-lay_body-requires-then-op-eq7 : goal.lay_stmt-lay_body-requires-then-op-eq7
 lay_stmt-lay_body-requires-then-op-eq7 t c =

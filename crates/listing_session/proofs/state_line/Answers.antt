@@ -1,0 +1,15 @@
+use borrow.Author.Tests.{lt-ltb, le-ltb}
+use Rattle.listing_session.specs.Session.{state_line}
+use Rattle.listing_session.proofs.state_line.Goals as goal
+
+pub returns-then-i-tasks : goal.returns-then-i-tasks
+unfolding state_line
+returns-then-i-tasks c = rw (← c.taskcount_in-tasks.ensures, lt-ltb _ _ c.if-i-tasks.true, ← c.task_at-x.ensures) c.task_line.ensures
+
+pub returns-then-j-chancount_in : goal.returns-then-j-chancount_in
+unfolding state_line
+returns-then-j-chancount_in c = rw (← c.taskcount_in-tasks.ensures, le-ltb _ _ c.if-i-tasks.false, ← c.chancount_in.ensures, lt-ltb _ _ c.if-j-chancount_in.true, ← c.chan_at-x.ensures) c.chan_line.ensures
+
+pub returns : goal.returns
+unfolding state_line
+returns c = rw (← c.taskcount_in-tasks.ensures, le-ltb _ _ c.if-i-tasks.false, ← c.chancount_in.ensures, le-ltb _ _ c.if-j-chancount_in.false, ← c.stamp_in.ensures, ← c.fault_in.ensures) c.stamp_line.ensures
