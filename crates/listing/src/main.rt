@@ -21,7 +21,8 @@ fn list(out: &mut impl Write, input: &[u8]) -> io::Result<()> {
     for i in 0..line_count(session) {
         let listed = next(input, &image, i, session, values);
         put(out, listed.line)?;
-        values = stored(values, listed.change);
+        let after = stored(values, listed.change);
+        values = after;
         session = listed.session;
     }
     Ok(())

@@ -60,7 +60,8 @@ fn compare(input: &[u8], expected: &[u8]) -> Verdict {
         if k < line.len as usize {
             return Verdict::Differs(at);
         }
-        values = stored(values, listed.change);
+        let after = stored(values, listed.change);
+        values = after;
         session = listed.session;
     }
     if at < expected.len() {
