@@ -55,9 +55,10 @@ fn compare(input: &[u8], expected: &[u8]) -> Verdict {
     for i in 0..line_count(session) {
         let listed = next(input, &image, i, session, values);
         let line = listed.line;
+        let len = line.len as usize;
         let k = found(expected, at, line);
         at += k;
-        if k < line.len as usize {
+        if k < len {
             return Verdict::Differs(at);
         }
         let after = stored(values, listed.change);
