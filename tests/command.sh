@@ -1,7 +1,7 @@
 #!/bin/sh
 # Tries bin/listing as somebody at a bench would: the worked job, from a file and from standard input, by the proved build where one
-# stands and by one without proof; and a file that is not there, a directory, two files, and no kit on the path, each of which must
-# say what to do and end with a status that is not 0. Prints a line for each fault.
+# stands and without proof; and a file that is not there, a directory, two files, and neither a proved build nor a kit on the path, each
+# of which must say what to do and end with a status that is not 0. Prints a line for each fault.
 set -u
 cd "$(dirname "$0")/.." || exit 2
 faults=0
@@ -18,9 +18,9 @@ listed 'a job in a file'
 bin/listing <$job >"$said/out" 2>"$said/err" || fault "a job on standard input: status $?"
 listed 'a job on standard input'
 
-# A copy has no proved build, and must say that it runs one without proof.
+# A copy without the crates' out/ has no proved build, and must say that it runs without proof.
 copy=$said/copy
-mkdir "$copy" && cp -R bin crates crates.txt "$copy" || exit 2
+mkdir "$copy" && tar -c --no-wildcards-match-slash --exclude='crates/*/out' bin crates crates.txt | tar -x -C "$copy" || exit 2
 "$copy/bin/listing" $job >"$said/out" 2>"$said/err" || fault "a fresh copy: status $?"
 listed 'a fresh copy'
 grep -q 'not proved' "$said/err" || fault "a fresh copy: it does not say that it is not proved"
@@ -35,6 +35,6 @@ refused() { # WHAT COMMAND..: nothing on standard output, a sentence on standard
 refused 'a file that is not there' bin/listing "$said/none"
 refused 'a directory' bin/listing "$said"
 refused 'two files' bin/listing $job $job
-PATH=/usr/bin:/bin command -v rt >/dev/null || refused 'no kit on the path' env PATH=/usr/bin:/bin bin/listing $job
+PATH=/usr/bin:/bin command -v rt >/dev/null || refused 'no kit on the path' env PATH=/usr/bin:/bin "$copy/bin/listing" $job
 
 [ "$faults" -eq 0 ] && echo "bin/listing answers as it should"

@@ -1,17 +1,12 @@
 # shellcheck shell=sh disable=SC2154,SC2034
-# Read by the scripts beside it, behind bin/runner.sh: the library's archives, and what compiles and links.
+# Read by the scripts beside it, behind bin/kit.sh: the library's archives, and what compiles and links.
 out=target/count
 mkdir -p $out
-# archive CRATE: makes $out/libCRATE.a where it is not of the sources as they stand. rt staticlib proves its crate anew each time; rt
-# check does not where nothing has changed, and leaves a stamp. The archive is kept beside its stamp, since a later rt staticlib
-# overwrites rt's own.
+# archive CRATE: makes $out/libCRATE.a, the archive by which C calls CRATE: the static library CRATE_c, of which rt lib proves no more
+# than has changed.
 archive() {
-    rt check "$1" >$out/log 2>&1 || { cat $out/log >&2; exit 1; }
-    if [ ! -f "$out/lib$1.a" ] || ! cmp -s "target/stamp/$1" "$out/$1.stamp"; then
-        rt staticlib "$1" >$out/log 2>&1 || { cat $out/log >&2; exit 1; }
-        cp "target/staticlib/lib$1.a" "$out/lib$1.a"
-        cp "target/stamp/$1" "$out/$1.stamp"
-    fi
+    (cd "crates/$1_c" && rt lib) >$out/log 2>&1 || { cat $out/log >&2; exit 1; }
+    cp "crates/$1_c/out/lib$1_c.a" "$out/lib$1.a"
 }
 # compile SOURCE OBJECT FLAG..: for x86-64, by the kit's clang, which brings no headers of its own, or by CC=..
 compile() {

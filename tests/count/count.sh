@@ -3,25 +3,22 @@
 # by plain C: a run of N
 # rounds and one of 2N, and their difference divided by N, so that everything but the rounds falls out. A benchmark and no test.
 #
-# On x86-64 the program is an ordinary one with the C library's memcpy, and valgrind counts; where there is none it is installed.
-# Elsewhere, or where that fails, the program is freestanding with the memcpy of start.c, and an emulator counts: the kit's on
-# Arm, else Debian's qemu-user.
+# The program is an ordinary one with the C library's memcpy, and valgrind counts; where there is none it is installed. Where that
+# fails, the program is freestanding with the memcpy of start.c, and Debian's qemu-user counts.
 #
 # usage: [CC=gcc] [N=10] [WAY=emulated] [EMU=qemu-x86_64] count.sh [KIND...]
 #     the kinds are those of bench.c, all of them unless some are named; CC, a compiler for x86-64, is the kit's clang and with
 #     it the kit's C library unless it is set
 set -eu
 cd "$(dirname "$0")/../.."
-. bin/runner.sh
+. bin/kit.sh
 . tests/count/archive.sh
 # The rounds of the fit and the schedule are in archives of their own, so that in each the fit and the step have one caller and are laid
 # into it, as in the product.
 for crate in bench bench_fit bench_schedule; do archive $crate; done
 archives="$out/libbench.a $out/libbench_fit.a $out/libbench_schedule.a"
 way=${WAY:-native}
-if [ "$(uname -m)" != x86_64 ]; then
-    way=emulated
-elif [ "$way" = native ] && ! command -v valgrind >/dev/null && ! apt-get install -y valgrind >&2; then
+if [ "$way" = native ] && ! command -v valgrind >/dev/null && ! apt-get install -y valgrind >&2; then
     echo "count: valgrind is not here and could not be installed" >&2
     way=emulated
 fi
@@ -38,13 +35,13 @@ build_native() {
         memory="this machine's C library, $(ldd --version | head -n 1)"
     else
         # shellcheck disable=SC2086 # words
-        "$kit/on/$(uname -m)/bin/rattle-link" --target x86_64-unknown-linux-gnu --toolchain "$tools" -o $out/bench $out/bench.o $out/plain.o $archives 2>$out/log || { cat $out/log >&2; exit 1; }
+        "$kit/bin/rattle-link" --target x86_64-unknown-linux-gnu --toolchain "$tools" -o $out/bench $out/bench.o $out/plain.o $archives 2>$out/log || { cat $out/log >&2; exit 1; }
         memory="the kit's C library, $("$loader" --version | head -n 1)"
     fi
     echo "count: native instructions, by $(valgrind --version)" >&2
 }
 build_emulated() {
-    emulator=${EMU:-${emulator:-$(command -v qemu-x86_64 || true)}}
+    emulator=${EMU:-$(command -v qemu-x86_64 || true)}
     [ -n "$emulator" ] || { apt-get install -y qemu-user >&2; emulator=qemu-x86_64; }
     one=-singlestep
     if "$emulator" --help | grep -q one-insn-per-tb; then one=-one-insn-per-tb; fi

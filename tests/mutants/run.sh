@@ -27,8 +27,8 @@ RT_JOBS=${RT_JOBS:-1}
 RT_CUT=0
 export RT_JOBS RT_CUT
 
-crates=$(sed 's/#.*//; s/:.*//' crates.txt)
-# Every library; a program has no definitions.
+crates=$(sed 's/#.*//; /staticlib/d; s/:.*//' crates.txt)
+# Every library; a program has no definitions, and a static library only passes calls on.
 libraries=$(for c in $crates; do [ -f "crates/$c/src/lib.rt" ] && echo "$c"; done)
 
 deps_of() { sed 's/#.*//' "$root/crates.txt" | sed -n "s/^ *$1 *: *//p"; }

@@ -1,6 +1,8 @@
 // Rounds of one turn, for counting instructions: a job is started, brought by a schedule to the turn that is asked about, and that
 // turn is then made again and again from the same state. The rounds of a fit are crate bench_fit's, so that the turn is the fit's
 // only caller here, as in the product. A benchmark and no test; tests/count runs it.
+#![tactic(auto)]
+
 ghost use Rattle.std.specs.Prelude.{◌≡◌};
 ghost use Rattle.meaning.specs.Image.{task_no};
 ghost use Rattle.machine_records.specs.Step.{stepped};
@@ -162,8 +164,7 @@ fn after_pairs(image: &[u8], pairs: &[u8], way: u8, task: Task, choice: u8, roun
 }
 
 // One start. Answers the stamp, 0.
-#[unsafe(no_mangle)]
-pub extern "C" fn bench_start(image: &[u8]) -> u16
+pub fn bench_start(image: &[u8]) -> u16
     ensures { result ≡ (records_of (started image.now).state).stamp }
 {
     let begun = start(image);
@@ -174,15 +175,7 @@ pub extern "C" fn bench_start(image: &[u8]) -> u16
 }
 
 // Rounds of one turn: bare steps, or whole turns with the image check and the fit. Answers the stamp.
-#[unsafe(no_mangle)]
-pub extern "C" fn bench_rounds(
-    image: &[u8],
-    pairs: &[u8],
-    way: u8,
-    task: u8,
-    choice: u8,
-    rounds: u32,
-) -> u16
+pub fn bench_rounds(image: &[u8], pairs: &[u8], way: u8, task: u8, choice: u8, rounds: u32) -> u16
     ensures { result ≡ after_pairs image.now (task_no task) choice rounds way pairs.now (started image.now).state fresh_values }
 {
     after_pairs(image, pairs, way, Task(task), choice, rounds)

@@ -8,8 +8,7 @@ use image_check::{Checked, check};
 use translate::{Translated, translate};
 
 // The image's length, or 0 where the text is refused.
-#[unsafe(no_mangle)]
-pub extern "C" fn bench_translate(text: &[u8], image: &mut [u8]) -> usize
+pub fn bench_translate(text: &[u8], image: &mut [u8]) -> usize
     ensures { (result ≡ length_of (translated text.now (length image.old))) × (image.new ≡ written text.now image.old) }
 {
     match translate(text, image) {
@@ -19,8 +18,7 @@ pub extern "C" fn bench_translate(text: &[u8], image: &mut [u8]) -> usize
 }
 
 // The number and 256 times the place of the check's refusal, or 0.
-#[unsafe(no_mangle)]
-pub extern "C" fn bench_check(image: &[u8]) -> u32
+pub fn bench_check(image: &[u8]) -> u32
     ensures { result ≡ refusal_of (checked image.now) }
 {
     match check(image) {

@@ -1,6 +1,8 @@
 // Rounds of one fit, for counting instructions: a job is started, led by a schedule to the state that is asked about, and its fit
 // is then asked again and again. A crate of its own, led on by bare steps: with a turn in it the fit would have two callers, and
 // would be laid into neither, as it is in the product. A benchmark and no test; tests/count runs it.
+#![tactic(auto)]
+
 ghost use Rattle.std.specs.Prelude.{◌≡◌};
 ghost use Rattle.machine.specs.Public.{fresh_values};
 ghost use Rattle.bench_fit.specs.FitRounds.{fit_rounds, led_on, FitsCounted};
@@ -64,8 +66,7 @@ fn fit_rounds(
 }
 
 // Rounds of the fit of the state that the pairs lead to. Answers how many said yes, modulo 65,536.
-#[unsafe(no_mangle)]
-pub extern "C" fn bench_fit(image: &[u8], pairs: &[u8], rounds: u32) -> u16
+pub fn bench_fit(image: &[u8], pairs: &[u8], rounds: u32) -> u16
     ensures { FitsCounted image.now pairs.now rounds result }
 {
     let body = body_of(image);

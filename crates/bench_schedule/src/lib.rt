@@ -1,5 +1,7 @@
 // One schedule from a fresh start, for counting the instructions of a turn in its loop: an archive of its own, so that the step has
 // one caller, as in the product. A benchmark and no test; tests/count runs it.
+#![tactic(auto)]
+
 ghost use Rattle.std.specs.Prelude.{◌≡◌};
 ghost use Rattle.machine.specs.Public.{started, fresh_values};
 ghost use Rattle.machine_turns.specs.Schedule.{decided, records_after};
@@ -20,8 +22,7 @@ fn number_of(outcome: Outcome) -> u8
 }
 
 // The turns of the pairs from a fresh start, and their records. Answers a refusal's number, or 0.
-#[unsafe(no_mangle)]
-pub extern "C" fn bench_schedule(image: &[u8], pairs: &[u8], records: &mut [u8]) -> u8
+pub fn bench_schedule(image: &[u8], pairs: &[u8], records: &mut [u8]) -> u8
     ensures { (result ≡ number_of (decided image.now (started image.now).state pairs.now records.old)) × (records.new ≡ records_after image.now (started image.now).state fresh_values pairs.now records.old) }
 {
     let begun = start(image);

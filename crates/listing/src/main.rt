@@ -1,36 +1,36 @@
 // The listing program: standard input in, its listing out, line by line. What the lines are is decided in crate `listing_session`.
-use libc::{STDIN_FILENO, STDOUT_FILENO};
+#![tactic(auto)]
+
 use listing_answer::{IMAGE_ROOM, INPUT_ROOM, first};
 use listing_lines::Line;
 use listing_session::{begin, line_count, next};
 use machine::{fresh_values, stored};
+use std::io;
+use std::io::{Read, Write};
 
-fn put(line: Line) {
+fn put(out: &mut impl Write, line: Line) -> io::Result<()> {
     let bytes = line.bytes;
-    io::write_all(STDOUT_FILENO, first(&bytes, line.len as usize));
+    out.write_all(first(&bytes, line.len as usize))
 }
 
-fn list(input: &[u8]) {
+// Each line is written as soon as it is known, so that of a listing that can't be written to its end the beginning stands.
+fn list(out: &mut impl Write, input: &[u8]) -> io::Result<()> {
     let mut image = [0u8; IMAGE_ROOM];
     let mut session = begin(input, &mut image);
     let mut values = fresh_values();
-    let count = line_count(session);
-    let mut i: u32 = 0;
-    while i < count {
+    for i in 0..line_count(session) {
         let listed = next(input, &image, i, session, values);
-        let line = listed.line;
-        put(line);
-        let change = listed.change;
-        let after = stored(values, change);
+        put(out, listed.line)?;
+        let after = stored(values, listed.change);
         values = after;
-        let later = listed.session;
-        session = later;
-        i = i + 1;
+        session = listed.session;
     }
+    Ok(())
 }
 
-fn main() {
-    let mut input = [0u8; INPUT_ROOM];
-    let n = io::read_full(STDIN_FILENO, &mut input);
-    list(&input[..n]);
+// One byte more than an input may have is read, and nothing behind it: that one says that the input is too long.
+fn main(rt: HostRuntime) -> io::Result<()> {
+    let mut input = Vec::new(rt.alloc());
+    rt.reader().take(INPUT_ROOM as u64).read_to_end(&mut input)?;
+    list(&mut io::writer(&rt), input.as_slice())
 }

@@ -1,14 +1,24 @@
 // Runs the stored cases: each argument names one, NAME.in with an input and NAME.out with its listing. A line says whether what is
 // listed is what is stored, or at which byte the two part.
+#![tactic(auto)]
+
 ghost use Rattle.std.specs.Prelude.{◌+◌, ◌≤◌, length};
 
-use libc::STDOUT_FILENO;
 use listing_answer::{IMAGE_ROOM, INPUT_ROOM, behind, first};
 use listing_lines::Line;
 use listing_session::{begin, line_count, next};
 use machine::{fresh_values, stored};
+use std::fs::File;
+use std::io::Read;
+use std::rt::Files;
+use std::{env, io};
 
-#[derive(Drop)]
+// The longest name of a case, and how many bytes of a stored listing are read.
+const NAME_LIMIT: usize = 124;
+
+const LISTING_ROOM: usize = 65536;
+
+#[derive(Clone, Copy)]
 enum Verdict {
     Same,
     Differs(usize), // at this byte
@@ -20,17 +30,12 @@ enum Verdict {
 fn in_common(a: &[u8], b: &[u8]) -> usize
     ensures { result ≤ length a.now }
 {
-    let mut k = 0;
-    while k < a.len() {
-        if k >= b.len() {
+    for k in 0..a.len() {
+        if k >= b.len() || a[k] != b[k] {
             return k;
         }
-        if a[k] != b[k] {
-            return k;
-        }
-        k = k + 1;
     }
-    k
+    a.len()
 }
 
 // How many bytes of a line stand in the expected listing from place `at` on.
@@ -46,23 +51,19 @@ fn compare(input: &[u8], expected: &[u8]) -> Verdict {
     let mut image = [0u8; IMAGE_ROOM];
     let mut session = begin(input, &mut image);
     let mut values = fresh_values();
-    let count = line_count(session);
     let mut at = 0;
-    let mut i: u32 = 0;
-    while i < count {
+    for i in 0..line_count(session) {
         let listed = next(input, &image, i, session, values);
         let line = listed.line;
+        let len = line.len as usize;
         let k = found(expected, at, line);
-        at = at + k;
-        if k < line.len as usize {
+        at += k;
+        if k < len {
             return Verdict::Differs(at);
         }
-        let change = listed.change;
-        let after = stored(values, change);
+        let after = stored(values, listed.change);
         values = after;
-        let later = listed.session;
-        session = later;
-        i = i + 1;
+        session = listed.session;
     }
     if at < expected.len() {
         return Verdict::Differs(at);
@@ -72,58 +73,36 @@ fn compare(input: &[u8], expected: &[u8]) -> Verdict {
 
 // THE FILES
 
-// Reads a file into a buffer. One that can't be read counts as empty, which no listing is.
-fn read(path: &[u8], buf: &mut [u8]) -> usize {
-    let fd = os::open_read(path);
-    let n = io::read_full(fd, buf);
-    libc::close(fd);
-    n
+// The first bytes of a file, at most so many. One that can't be opened counts as empty, which no listing is.
+fn read<R: Files + Alloc>(rt: &R, path: &str, most: usize) -> io::Result<Vec<u8, R::A>> {
+    let mut bytes = Vec::new(rt.alloc());
+    if let Ok(file) = File::open(rt, path) {
+        file.take(most as u64).read_to_end(&mut bytes)?;
+    }
+    Ok(bytes)
 }
 
-fn say(verdict: Verdict, name: &[u8]) {
+fn say(rt: &impl Print, verdict: Verdict, name: &str) -> io::Result<()> {
     match verdict {
-        Verdict::Same => {
-            io::write_all(STDOUT_FILENO, b"ok ");
-            io::write_all(STDOUT_FILENO, name);
-        }
-        Verdict::Differs(at) => {
-            io::write_all(STDOUT_FILENO, b"differs ");
-            io::write_all(STDOUT_FILENO, name);
-            io::write_all(STDOUT_FILENO, b" at byte ");
-            io::print_decimal(STDOUT_FILENO, at as u64);
-        }
+        Verdict::Same => println!(rt; "ok {name}"),
+        Verdict::Differs(at) => println!(rt; "differs {name} at byte {at}"),
     }
-    io::write_all(STDOUT_FILENO, b"\n");
 }
 
-// Runs the case whose name stands in the first n bytes of a path, with room for an ending behind it.
-fn run_case(mut path: [u8; 128], n: usize)
-    requires { n ≤ 124 }
-{
-    let mut input = [0u8; INPUT_ROOM];
-    let mut expected = io::large_buffer();
-    path[n] = b'.';
-    path[n + 1] = b'i';
-    path[n + 2] = b'n';
-    let given = read(first(&path, n + 3), &mut input);
-    path[n + 1] = b'o';
-    path[n + 2] = b'u';
-    path[n + 3] = b't';
-    let wanted = read(first(&path, n + 4), &mut expected);
-    let verdict = compare(first(&input, given), first(&expected, wanted));
-    say(verdict, first(&path, n));
+fn run_case<R: Files + Print + Alloc>(rt: &R, name: &str) -> io::Result<()> {
+    let input_path = format!(in rt.alloc(); "{name}.in")?;
+    let input = read(rt, input_path.as_str(), INPUT_ROOM)?;
+    let expected_path = format!(in rt.alloc(); "{name}.out")?;
+    let expected = read(rt, expected_path.as_str(), LISTING_ROOM)?;
+    say(rt, compare(input.as_slice(), expected.as_slice()), name)
 }
 
-// A name that leaves no room for an ending is passed over, and its line is then missing.
-fn main() {
-    let count = os::arg_count();
-    let mut i = 1;
-    while i < count {
-        let mut path = [0u8; 128];
-        let n = os::arg(i, &mut path);
-        if n <= 124 {
-            run_case(path, n);
+// A longer name is passed over, and its line is then missing.
+fn main(rt: HostRuntime) -> io::Result<()> {
+    for name in env::args(&rt)?.skip(1) {
+        if name.len() <= NAME_LIMIT {
+            run_case(&rt, name.as_str())?;
         }
-        i = i + 1;
     }
+    Ok(())
 }

@@ -12,7 +12,7 @@ use machine_turns::{Outcome, Scheduled};
 use meaning::sizes::{CELLS, CHANS};
 
 // What comes of a block: all as stored, the first of answer, state and records that differs, or a line that is not the one due.
-#[derive(Drop)]
+#[derive(Clone, Copy)]
 pub enum Verdict {
     Same,
     Return,
@@ -22,7 +22,7 @@ pub enum Verdict {
 }
 
 // Where the machine comes from: a start of the image, or the state given, with its counts.
-#[derive(Drop)]
+#[derive(Clone, Copy)]
 struct Origin {
     last: Line,
     given: bool,
@@ -31,7 +31,7 @@ struct Origin {
 }
 
 // What a call is made with: how many bytes of each slice. The line of the records is the last one read.
-#[derive(Drop)]
+#[derive(Clone, Copy)]
 struct Inputs {
     origin: Origin,
     image: usize,
@@ -40,7 +40,7 @@ struct Inputs {
 }
 
 // What is due from the call: the answer's two numbers; the last line tells the records.
-#[derive(Drop)]
+#[derive(Clone, Copy)]
 struct Due {
     last: Line,
     number: usize,
@@ -234,17 +234,7 @@ fn same_answer(outcome: Outcome, number: usize, place: usize) -> bool {
 
 // Whether two slices hold the same numbers.
 fn same_numbers(a: &[u16], b: &[u16]) -> bool {
-    if a.len() != b.len() {
-        return false;
-    }
-    let mut i = 0;
-    while i < a.len() {
-        if a[i] != b[i] {
-            return false;
-        }
-        i = i + 1;
-    }
-    true
+    a == b
 }
 
 // Whether every word and every cell is the same.
@@ -266,13 +256,10 @@ fn same_values(
     a: [[u16; CELLS as usize]; CHANS as usize],
     b: [[u16; CELLS as usize]; CHANS as usize],
 ) -> bool {
-    let mut c: u8 = 0;
-    while c < CHANS {
-        let i = (c % CHANS) as usize;
+    for i in 0..CHANS as usize {
         if !same_row(a[i], b[i]) {
             return false;
         }
-        c = c + 1;
     }
     true
 }

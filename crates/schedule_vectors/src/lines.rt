@@ -12,7 +12,7 @@ const LARGEST: usize = 999999999;
 
 // A line that begins at `at` with its key. What it tells stands from `from` up to `to`, the blank behind the key included; as bytes
 // it is so many.
-#[derive(Drop)]
+#[derive(Clone, Copy)]
 pub struct Line {
     pub good: bool,
     pub at: usize,
@@ -22,7 +22,7 @@ pub struct Line {
 }
 
 // The two numbers of a line.
-#[derive(Drop)]
+#[derive(Clone, Copy)]
 pub struct TwoNumbers {
     pub good: bool,
     pub first: usize,
@@ -30,14 +30,14 @@ pub struct TwoNumbers {
 }
 
 // How many bytes a line tells.
-#[derive(Drop)]
+#[derive(Clone, Copy)]
 pub struct Bytes {
     pub good: bool,
     pub count: usize,
 }
 
 // A number, and the place behind its digits.
-#[derive(Drop)]
+#[derive(Clone, Copy)]
 struct Number {
     good: bool,
     value: usize,
@@ -45,7 +45,7 @@ struct Number {
 }
 
 // So many times the same byte, and the place behind what says so.
-#[derive(Drop)]
+#[derive(Clone, Copy)]
 struct Run {
     good: bool,
     byte: u8,
@@ -72,31 +72,19 @@ pub fn first(room: &[u8; ROOM], n: usize) -> &[u8] {
 
 // Whether two slices hold the same bytes.
 pub fn same(a: &[u8], b: &[u8]) -> bool {
-    if a.len() != b.len() {
-        return false;
-    }
-    let mut i = 0;
-    while i < a.len() {
-        if a[i] != byte_at(b, i) {
-            return false;
-        }
-        i = i + 1;
-    }
-    true
+    a == b
 }
 
 // The first place from `at` on with this byte, or the text's end.
 pub fn up_to(text: &[u8], at: usize, byte: u8) -> usize
     ensures { at ≤ result }
 {
-    let mut i = at;
-    while i < text.len() {
+    for i in at..text.len() {
         if text[i] == byte {
             return i;
         }
-        i = i + 1;
     }
-    i
+    at.max(text.len())
 }
 
 // LINES
@@ -297,12 +285,8 @@ fn run_at(told: &[u8], at: usize) -> Run
 
 // Puts a byte to every place from one up to another.
 fn fill(out: &mut [u8; ROOM], from: usize, to: usize, byte: u8) {
-    let mut i = from;
-    while i < to {
-        if i < ROOM {
-            out[i] = byte;
-        }
-        i = i + 1;
+    for i in from..to.min(ROOM) {
+        out[i] = byte;
     }
 }
 

@@ -1,29 +1,31 @@
 // Runs stored calls of `schedule`: each argument names a file of blocks (data/README.md has the form). A line for each block says
 // whether answer, state and records are the ones stored, or which of them differ; the last line counts.
+#![tactic(auto)]
+
 ghost use Rattle.std.specs.Prelude.{◌<◌, length};
 
 use crate::block::{Verdict, judged, name_line};
 use crate::lines::{next_line, next_told, part, same, told, word_end};
-use libc::STDOUT_FILENO;
-use std::num::wrapping_add_u64;
+use std::fs::File;
+use std::io::{Read, Write};
+use std::rt::Files;
+use std::{env, io};
 
 mod block;
 mod lines;
 mod record;
 
+// A file of so many bytes is too long.
+const FILE_ROOM: usize = 65536;
+
 // How many blocks were run, and how many of them, or of the files, differ.
-#[derive(Drop)]
+#[derive(Clone, Copy)]
 struct Tally {
     blocks: u64,
     differ: u64,
 }
 
 // WHAT IS SAID
-
-// To standard output.
-fn write(bytes: &[u8]) {
-    io::write_all(STDOUT_FILENO, bytes);
-}
 
 // Whether a block is as stored.
 fn is_same(verdict: Verdict) -> bool {
@@ -37,46 +39,43 @@ fn is_same(verdict: Verdict) -> bool {
 }
 
 // The line that can't be read by its first word; a line that lacks at the block's end has none.
-fn say_unread(block: &[u8], at: usize) {
+fn say_unread(out: &mut impl Write, block: &[u8], at: usize) -> io::Result<()> {
     if at < block.len() {
-        write(b" unread line ");
-        write(part(block, at, word_end(block, at)));
+        out.write_all(b" unread line ")?;
+        out.write_all(part(block, at, word_end(block, at)))
     } else {
-        write(b" cut short");
+        out.write_all(b" cut short")
     }
 }
 
 // The line of a block.
-fn say(verdict: Verdict, block: &[u8]) {
+fn say(out: &mut impl Write, verdict: Verdict, block: &[u8]) -> io::Result<()> {
     if is_same(verdict) {
-        write(b"ok");
+        out.write_all(b"ok")?;
     } else {
-        write(b"differs");
+        out.write_all(b"differs")?;
     }
-    write(told(block, name_line(block)));
+    out.write_all(told(block, name_line(block)))?;
     match verdict {
         Verdict::Same => {}
-        Verdict::Return => write(b" return"),
-        Verdict::State => write(b" state"),
-        Verdict::Records => write(b" records"),
-        Verdict::Unread(at) => say_unread(block, at),
+        Verdict::Return => out.write_all(b" return")?,
+        Verdict::State => out.write_all(b" state")?,
+        Verdict::Records => out.write_all(b" records")?,
+        Verdict::Unread(at) => say_unread(out, block, at)?,
     }
-    write(b"\n");
+    out.write_all(b"\n")
 }
 
 // A file that is not run, and why.
-fn say_file(path: &[u8], why: &[u8]) {
-    write(b"differs ");
-    write(path);
-    write(why);
+fn say_file(out: &mut impl Write, path: &str, why: &str) -> io::Result<()> {
+    writeln!(out, "differs {path} {why}")
 }
 
 // The last line.
-fn say_tally(tally: Tally) {
-    io::print_decimal(STDOUT_FILENO, tally.blocks);
-    write(b" blocks, ");
-    io::print_decimal(STDOUT_FILENO, tally.differ);
-    write(b" differ\n");
+fn say_tally(out: &mut impl Write, tally: Tally) -> io::Result<()> {
+    let blocks = tally.blocks;
+    let differ = tally.differ;
+    writeln!(out, "{blocks} blocks, {differ} differ")
 }
 
 // THE BLOCKS
@@ -100,70 +99,81 @@ fn block_end(text: &[u8], at: usize) -> usize
 fn differing(tally: Tally) -> Tally {
     Tally {
         blocks: tally.blocks,
-        differ: wrapping_add_u64(tally.differ, 1),
+        differ: tally.differ.wrapping_add(1),
     }
 }
 
 // One block: its verdict said and counted.
-fn run_block(block: &[u8], tally: Tally) -> Tally {
+fn run_block(out: &mut impl Write, block: &[u8], tally: Tally) -> io::Result<Tally> {
     let verdict = judged(block);
-    say(verdict, block);
+    say(out, verdict, block)?;
     let counted = Tally {
-        blocks: wrapping_add_u64(tally.blocks, 1),
+        blocks: tally.blocks.wrapping_add(1),
         differ: tally.differ,
     };
     if is_same(verdict) {
-        counted
+        Ok(counted)
     } else {
-        differing(counted)
+        Ok(differing(counted))
     }
 }
 
 // Every block of a text from `first` on.
-fn run_blocks(text: &[u8], first: usize, mut tally: Tally) -> Tally {
+fn run_blocks(
+    out: &mut impl Write,
+    text: &[u8],
+    first: usize,
+    mut tally: Tally,
+) -> io::Result<Tally> {
     let mut at = first;
     while at < text.len() {
         let end = block_end(text, at);
-        tally = run_block(part(text, at, end), tally);
+        tally = run_block(out, part(text, at, end), tally)?;
         at = end;
     }
-    tally
+    Ok(tally)
 }
 
 // THE FILES
 
-// A file that fills the buffer may be longer than it, and one that can't be read counts as empty: neither passes.
-fn run_file(path: &[u8], tally: Tally) -> Tally {
-    let mut room = io::large_buffer();
-    let fd = os::open_read(path);
-    let size = io::read_full(fd, &mut room);
-    libc::close(fd);
-    if size >= room.len() {
-        say_file(path, b" too long\n");
-        return differing(tally);
+// The first bytes of a file, as many as are told apart. One that can't be opened counts as empty.
+fn read<R: Files + Alloc>(rt: &R, path: &str) -> io::Result<Vec<u8, R::A>> {
+    let mut bytes = Vec::new(rt.alloc());
+    if let Ok(file) = File::open(rt, path) {
+        file.take(FILE_ROOM as u64).read_to_end(&mut bytes)?;
     }
-    let text = part(&room, 0, size);
-    let first = next_told(text, 0);
-    if first >= size {
-        say_file(path, b" without a block\n");
-        return differing(tally);
+    Ok(bytes)
+}
+
+// A file that is too long, and one without a block, as an empty one, don't pass.
+fn run_file<R: Files + Alloc, W: Write>(
+    rt: &R,
+    out: &mut W,
+    path: &str,
+    tally: Tally,
+) -> io::Result<Tally> {
+    let text = read(rt, path)?;
+    if text.len() >= FILE_ROOM {
+        say_file(out, path, "too long")?;
+        return Ok(differing(tally));
     }
-    run_blocks(text, first, tally)
+    let first = next_told(text.as_slice(), 0);
+    if first >= text.len() {
+        say_file(out, path, "without a block")?;
+        return Ok(differing(tally));
+    }
+    run_blocks(out, text.as_slice(), first, tally)
 }
 
 // Runs every file named, in order.
-fn main() {
-    let count = os::arg_count();
+fn main(rt: HostRuntime) -> io::Result<()> {
+    let mut out = io::writer(&rt);
     let mut tally = Tally {
         blocks: 0,
         differ: 0,
     };
-    let mut i = 1;
-    while i < count {
-        let mut path = io::buffer();
-        let n = os::arg(i, &mut path);
-        tally = run_file(part(&path, 0, n), tally);
-        i = i + 1;
+    for path in env::args(&rt)?.skip(1) {
+        tally = run_file(&rt, &mut out, path.as_str(), tally)?;
     }
-    say_tally(tally);
+    say_tally(&mut out, tally)
 }

@@ -58,11 +58,9 @@ pub fn state_of(record: &[u8; ROOM], tasks: u8, channels: u8) -> State {
     cells[WAITING] = byte_at(record, 4);
     cells[TASK_COUNT] = tasks;
     cells[CHAN_COUNT] = channels;
-    let mut i: u8 = 0;
-    while i < TASKS {
+    for i in 0..TASKS {
         put_task(record, i, &mut words, &mut cells);
         put_chan(record, i, &mut cells);
-        i = i + 1;
     }
     State {
         words: words,
@@ -74,11 +72,8 @@ pub fn state_of(record: &[u8; ROOM], tasks: u8, channels: u8) -> State {
 fn row_of(record: &[u8], c: u8) -> [u16; CELLS as usize] {
     let first = CHANS_AT + CHAN_SIZE * (c as u32) + 2;
     let mut row = [0u16; CELLS as usize];
-    let mut k: u8 = 0;
-    while k < CELLS {
-        let i = (k % CELLS) as usize;
-        row[i] = two_at(record, first + 2 * (k as u32));
-        k = k + 1;
+    for k in 0..CELLS {
+        row[k as usize] = two_at(record, first + 2 * (k as u32));
     }
     row
 }
@@ -86,11 +81,8 @@ fn row_of(record: &[u8], c: u8) -> [u16; CELLS as usize] {
 // The values that a record tells.
 pub fn values_of(record: &[u8; ROOM]) -> [[u16; CELLS as usize]; CHANS as usize] {
     let mut values = [[0u16; CELLS as usize]; CHANS as usize];
-    let mut c: u8 = 0;
-    while c < CHANS {
-        let i = (c % CHANS) as usize;
-        values[i] = row_of(record, c);
-        c = c + 1;
+    for c in 0..CHANS {
+        values[c as usize] = row_of(record, c);
     }
     values
 }
