@@ -1,14 +1,14 @@
 -- Laws that the proofs of this crate cite. Assumes nothing.
-use mathlib.Core.Path.{◌≡◌, refl, sym, ap, ap₂, ◌∙◌}
+use mathlib.Core.Path.{◌≡◌, refl, sym, ap, ◌∙◌}
 use mathlib.Core.Bool.{cond}
-use mathlib.Core.List.{List, [], ◌∷◌}
+use mathlib.Core.List.{List}
 use Prim.Native.Nat.{ℕ, zero, suc, ◌+◌, ◌%◌, ◌<◌, ◌≤◌}
 use native.Mathlib.Nat.{mod-eq_of_lt}
 use native.Mathlib.Decide.{dec_lt}
 use native.Mathlib.Omega.{arith}
 use borrow.Author.Tests.{lt-ltb, le-ltb}
 use lib.Dec.{ltb}
-use lib.ListN.{length, get_or, set, replicate}
+use lib.ListN.{get_or, set, replicate}
 use Rattle.machine.specs.Kinds.{Row, Counts, TaskState}
 use Rattle.meaning.specs.Image.{row_no, task_no}
 use Rattle.meaning.specs.Bytes.{tabulate, first_row_in}

@@ -1,6 +1,6 @@
 -- By which row a waiting task is served, by two bytes of each row: words for the contracts of this crate. That they say what
 -- `matched_at` says of the decoded rows is proved in laws/Served.
-use Rattle.std.specs.Prelude.{Bool, true, false, cond, List, ℕ, zero, suc, ◌+◌, eqb}
+use Rattle.std.specs.Prelude.{Bool, true, cond, List, ℕ, zero, suc, ◌+◌, eqb}
 use Rattle.machine_waiters.specs.Kinds.{Chan, Row, Recv, Statement, Do, Close, Range, Repeat, Ifok, Select, Case, Stop, Side, Receiving, Sending, Offer, Nothing, By, Head, Served, Miss}
 use Rattle.meaning.specs.Machine.{is_on}
 use Rattle.meaning.specs.Image.{row_no}

@@ -1,5 +1,5 @@
 -- The key of a list of bytes, and sixteen words searched by key.
-use Rattle.std.specs.Prelude.{Bool, cond, List, [], ◌∷◌, ℕ, zero, suc, ◌+◌, ◌-◌, ◌*◌, ◌/◌, ◌%◌, ◌^◌, ◌≤◌, ◌<◌, eqb, get_or}
+use Rattle.std.specs.Prelude.{Bool, cond, List, [], ◌∷◌, ℕ, zero, suc, ◌+◌, ◌-◌, ◌*◌, ◌/◌, ◌%◌, ◌^◌, eqb, get_or}
 
 -- Bytes gathered as a number base 256, modulo 256 ^ 8: the last eight count.
 abbrev pub key_more : ℕ → ℕ → ℕ

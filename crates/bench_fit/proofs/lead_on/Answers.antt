@@ -1,4 +1,4 @@
-use Rattle.std.proofs.Common.{◌+◌, ◌-◌, drop, sym, ap, ◌∙◌, ap₂, rules}
+use Rattle.std.proofs.Common.{◌+◌, drop, sym, ap, ◌∙◌, ap₂, rules}
 use Rattle.machine_records.specs.Values.{changed}
 use Rattle.machine_records.specs.Plans.{Done}
 use Rattle.machine_store.specs.Store.{records_in}

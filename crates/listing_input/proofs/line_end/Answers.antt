@@ -1,6 +1,5 @@
 use mathlib.Core.Bool.{not}
 use mathlib.Core.Path.{ap, ◌∙◌}
-use Prim.Native.Nat.{◌-◌}
 use borrow.Author.Tests.{eq-eqb, ne_eqb}
 use Rattle.text_words.specs.Laws.Words.{run_more, run_stop, run_end}
 use Rattle.listing_input.specs.Input.{in_line}

@@ -17,7 +17,7 @@ use Rattle.machine_records.specs.Records.{Records}
 use Rattle.machine_records.specs.Values.{Values}
 use Rattle.machine_records.specs.Plans.{Done}
 use Rattle.machine_records.specs.Step.{stepped}
-use Rattle.machine_store.specs.Store.{records_in, records_of, Plain, done_in, MadeTurn}
+use Rattle.machine_store.specs.Store.{records_in, Plain, done_in, MadeTurn}
 use Rattle.machine_store.specs.Laws.Again.{words_again, cells_again}
 use Rattle.machine_fit.specs.Fitted.{fitting_in}
 use Rattle.machine_fit.specs.Laws.Plain.{fitting_parts}

@@ -4,7 +4,7 @@ use Rattle.std.proofs.Common.{sym, ◌∙◌, lt-ltb, le-ltb}
 use Rattle.std.proofs.Math.Path.{ap}
 use Rattle.std.proofs.Math.Bool.{true, false}
 use Rattle.std.proofs.Math.Dec.{ltb}
-use Rattle.machine_exchange.specs.Kinds.{Task, Chan, Row, On, Op, Send, Forward, Recv, ChanState, Found, Nobody, At, Receiving, Sending, Plan, Exchange}
+use Rattle.machine_exchange.specs.Kinds.{Task, Chan, Row, On, Op, Send, Forward, Recv, ChanState, Found, Nobody, At, Receiving, Sending, Plan}
 use Rattle.meaning.specs.Numbers.{send_on_closed, close_of_closed, close_under_sender}
 use Rattle.meaning.specs.Bytes.{capacity_in}
 use Rattle.machine_records.specs.Records.{Records, chan_in}

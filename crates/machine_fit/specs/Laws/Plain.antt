@@ -1,6 +1,6 @@
 -- The test of plain cells and the fact are one: each gives the other.
 use Rattle.std.specs.Prelude.{◌≡◌, true, List, ℕ, ◌+◌, ◌≤◌, ◌<◌, leb}
-use Rattle.std.proofs.Common.{sym, ap, zero-add, leb-true, le-leb}
+use Rattle.std.proofs.Common.{sym, zero-add, leb-true, le-leb}
 use Rattle.std.proofs.Math.Path.{subst}
 use Rattle.std.proofs.Math.ListN.{get_or}
 use Rattle.meaning.specs.Laws.Tests.{both}

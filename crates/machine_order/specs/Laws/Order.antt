@@ -11,7 +11,7 @@ use Rattle.machine_records.specs.Laws.Cells.{over_snoc_at, lap_keeps, lap_drops}
 use Rattle.machine_records.specs.Records.{other, no_tasks, with_order, joined}
 use Rattle.machine_store.specs.Store.{name_of, records_in, Plain, Made}
 use Rattle.machine_store.specs.Laws.Tables.{table_set, table-length, take_whole, past2, first2, second2}
-use Rattle.machine_store.specs.Laws.Store.{Agree, tasks_same, chans_same, order_same, plain_set}
+use Rattle.machine_store.specs.Laws.Store.{tasks_same, chans_same, order_same, plain_set}
 
 -- A task behind the others.
 pub join_made : (w c : List ℕ) → length c ≡ 181 → (t : Task) → Made w c w (set (set c (32 + get_or c 176 0 % 16) t.0) 176 (get_or c 176 0 % 16 + 1)) (λ s. joined s t)

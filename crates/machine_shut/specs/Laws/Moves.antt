@@ -1,5 +1,5 @@
 -- The walk of a close, lap by lap.
-use Rattle.std.specs.Prelude.{◌≡◌, refl, Bool, true, false, not, List, [], ◌∷◌, ℕ, suc, ◌+◌, ◌-◌, ◌%◌, ◌<◌, ◌≤◌, get_or, set, take, drop}
+use Rattle.std.specs.Prelude.{◌≡◌, refl, Bool, true, false, not, List, [], ◌∷◌, ℕ, suc, ◌+◌, ◌-◌, ◌%◌, ◌<◌, get_or, set, take, drop}
 use Rattle.std.proofs.Common.{sym, ap₂, ◌∙◌, drop_of_length-le, drop-cons}
 use Rattle.std.proofs.Math.Path.{ap}
 use Rattle.std.proofs.Math.Numerals.{add-one}
@@ -14,7 +14,7 @@ use Rattle.machine_records.specs.Cells.{over, cons_if, keep}
 use Rattle.machine_records.specs.Laws.Cells.{lap_keeps, lap_drops}
 use Rattle.machine_records.specs.Records.{Records, task_in, order_of, got_task, no_tasks, with_tasks, with_order}
 use Rattle.machine_records.specs.Waiters.{is_offer, one, count_of, matched_at, waits_at, count_waiters}
-use Rattle.machine_records.specs.Plans.{idle, woken_by, woken_tasks, woken_all}
+use Rattle.machine_records.specs.Plans.{idle, woken_by, woken_tasks}
 use Rattle.machine_store.specs.Store.{records_in, RowIn, Plain, Made}
 use Rattle.machine_store.specs.Laws.Store.{row_same, order_length}
 use Rattle.machine_shut.specs.Moves.{Began, WokenSo}

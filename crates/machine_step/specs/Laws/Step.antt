@@ -2,10 +2,10 @@
 use Rattle.std.specs.Prelude.{◌≡◌, ℕ, zero, suc, List, ◌≢◌, refl}
 use Rattle.std.proofs.Common.{sym, ◌∙◌}
 use Rattle.std.proofs.Math.Path.{ap}
-use Rattle.machine_step.specs.Kinds.{Task, Row, Op, Statement, Status, TaskState, Offer, By, Plan, Moved}
+use Rattle.machine_step.specs.Kinds.{Task, Row, Op, Statement, TaskState, Offer, By, Plan}
 use Rattle.machine_records.specs.Records.{Records, task_in}
 use Rattle.machine_records.specs.Values.{Values}
-use Rattle.machine_records.specs.Plans.{Done, refused_turn, applied}
+use Rattle.machine_records.specs.Plans.{refused_turn, applied}
 use Rattle.machine_records.specs.Rules.{attempt}
 use Rattle.machine_records.specs.Step.{or_wait, plan_by, plan_of, refused_by, stepped_by, stepped}
 

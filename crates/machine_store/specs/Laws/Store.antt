@@ -1,7 +1,7 @@
 -- What the two arrays read as where cells of one part are set and the others are as they were.
 use Rattle.std.specs.Prelude.{◌≡◌, ℕ, zero, suc, ◌+◌, ◌*◌, ◌%◌, ◌<◌, ◌≤◌, Bool, true, false, List, [], ◌∷◌, length, get_or, set, ◌≢◌, slice_index, slice_index_or, slice_set}
 use Rattle.std.proofs.Math.Path.{refl, ap}
-use Rattle.std.proofs.Common.{sym, ◌∙◌, zero-add, mod-lt, arith, length-set, get_or-set_same, get_or-set_other}
+use Rattle.std.proofs.Common.{sym, ◌∙◌, zero-add, mod-lt, arith, get_or-set_same, get_or-set_other}
 use Rattle.std.proofs.Math.Decide.{ℕ_discrete}
 use Rattle.machine_store.specs.Kinds.{Task, Chan, Row, Status, Able, Waiting, Ended, TaskState, ChanState, Moved, Event, Change}
 use Rattle.meaning.specs.Numbers.{task_limit, channel_limit, depth_limit, stamp_modulus}

@@ -3,11 +3,11 @@ use Rattle.std.specs.Prelude.{◌≡◌, refl, get_or, drop}
 use Rattle.std.proofs.Math.Path.{sym, ap}
 use Rattle.std.proofs.Common.{ap₂, subst, ◌∙◌, add-one, le-leb, drop_of_length-le, drop-cons}
 use mathlib.Core.List.{List, [], ◌∷◌, ◌++◌}
-use Prim.Native.Nat.{ℕ, suc, ◌+◌, ◌*◌, ◌%◌, ◌≤◌, ◌<◌}
+use Prim.Native.Nat.{ℕ, suc, ◌+◌, ◌*◌, ◌≤◌, ◌<◌}
 use native.Mathlib.Omega.{arith}
 use Rattle.std.proofs.Math.ListN.{length}
 use Rattle.std.proofs.Math.Seq.{sets, length-sets}
-use Rattle.machine_turns.specs.Kinds.{Task, Good, Moved, State, Turned}
+use Rattle.machine_turns.specs.Kinds.{Task, Good, Moved, Turned}
 use Rattle.meaning.specs.Events.{numbers}
 use Rattle.meaning.specs.Image.{task_no}
 use Rattle.meaning.specs.Bytes.{body_of}
@@ -23,7 +23,7 @@ use Rattle.machine.specs.Public.{turned}
 use Rattle.machine.specs.Laws.Meant.{KeptIn, turned_kept}
 use Rattle.machine.specs.Laws.Told.{told_turn, turned_in_place}
 use Rattle.machine_turns.specs.Schedule.{pairs_of, state_behind, values_behind, event_records}
-use Rattle.machine_turns.specs.Loop.{Sixteen, state_in, Ready, Ran}
+use Rattle.machine_turns.specs.Loop.{state_in, Ready, Ran}
 
 -- The pair at an even place of an even number of bytes.
 pub pairs_lap : (ps : List ℕ) (i : ℕ) → i + 1 < length ps → pairs_of (drop i ps) ≡ (task_no (get_or ps i 0), get_or ps (i + 1) 0) ∷ pairs_of (drop (i + 2) ps)

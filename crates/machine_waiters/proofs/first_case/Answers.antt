@@ -4,7 +4,7 @@ use Rattle.meaning.specs.Bytes.{port_of}
 use Rattle.machine_waiters.specs.Served.{head_of, case_serves}
 use Rattle.machine_waiters.specs.Laws.Served.{taken_by, left_by}
 use mathlib.Core.Path.{sym, ◌∙◌}
-use Prim.Native.Nat.{◌-◌, ◌+◌}
+use Prim.Native.Nat.{◌+◌}
 use native.Mathlib.Omega.{arith}
 use native.Mathlib.Nat.{sub-zero, add-zero}
 use borrow.Author.Rules.{rules}

@@ -1,5 +1,4 @@
 use mathlib.Core.Path.{refl, sym, ap, ◌∙◌}
-use Prim.Native.Nat.{◌-◌}
 use native.Mathlib.Omega.{arith}
 use Rattle.machine_records.specs.Waiters.{first_waiter}
 use Rattle.machine_records.specs.declared.TaskState.{TaskState}

@@ -13,8 +13,8 @@ use Rattle.meaning.specs.Machine.{is_on, receives_on, sends_on}
 use Rattle.meaning.specs.Image.{row_no, task_no}
 use Rattle.meaning.specs.Bytes.{fields, port_of, statement_of, fields_of_row, rows_in}
 use Rattle.machine_records.specs.Records.{Records, task_in, order_of}
-use Rattle.machine_records.specs.Waiters.{case_offer, serving, or_else, first_case, matched_by, matched_at, found_by, first_of, waits_at, first_waiter}
-use Rattle.machine_waiters.specs.Served.{head_of, op_serves, case_serves, first_serving, served_by, served_at, row_offer, served_offer}
+use Rattle.machine_records.specs.Waiters.{case_offer, serving, or_else, first_case, matched_by, matched_at, found_by, first_of, waits_at}
+use Rattle.machine_waiters.specs.Served.{head_of, op_serves, case_serves, first_serving, served_at, row_offer, served_offer}
 
 -- A way taken by a test p of a head h that was read as g.
 pub taken_by : {A : Type 0} (f : Head → Bool) (h g : Head) (p : Bool) (x y : A) → h ≡ g → p ≡ f h → p ≡ true → cond (f g) x y ≡ x

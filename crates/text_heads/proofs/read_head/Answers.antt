@@ -1,4 +1,4 @@
-use borrow.Author.Tests.{not-true, not-false, lt-ltb, le-ltb}
+use borrow.Author.Tests.{lt-ltb, le-ltb}
 use Rattle.text_reader.specs.Answers.{head_by}
 use Rattle.text_heads.proofs.read_head.Goals as goal
 

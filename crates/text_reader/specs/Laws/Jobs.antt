@@ -6,7 +6,7 @@ use mathlib.Core.List.{List, [], ◌∷◌}
 use Rattle.std.proofs.lemmas.Bool.{eqb-false}
 use Rattle.std.proofs.Math.ListN.{length}
 use Rattle.meaning.specs.Numbers.{channel_limit, capacity_limit, task_limit, word_out_of_place, one_too_many, no_task_given}
-use Rattle.meaning.specs.Text.{Body, Job}
+use Rattle.meaning.specs.Text.{Body}
 use Rattle.meaning.specs.Laws.Tests.{cond_all}
 use Rattle.text_reader.specs.Kinds.{Word, Read, Counted, Reading}
 use Rattle.text_words.specs.Words.{no_kind, chan_kind, task_kind, word_at}

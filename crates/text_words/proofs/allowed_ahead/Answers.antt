@@ -1,5 +1,4 @@
 use mathlib.Core.Path.{sym, ◌∙◌}
-use Prim.Native.Nat.{◌-◌}
 use native.Mathlib.Omega.{arith}
 use Rattle.text_words.specs.Words.{is_allowed}
 use Rattle.text_words.specs.Laws.Words.{run_more, run_stop, run_end}

@@ -1,5 +1,4 @@
 use mathlib.Core.Path.{◌∙◌}
-use Prim.Native.Nat.{◌-◌}
 use Rattle.text_words.specs.Words.{is_allowed}
 use Rattle.text_words.proofs.Fronts.{stops_more, stops_end}
 use Rattle.text_words.proofs.any_not_allowed.Goals as goal

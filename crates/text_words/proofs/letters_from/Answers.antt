@@ -1,7 +1,5 @@
 use mathlib.Core.Path.{sym, ◌∙◌}
-use Prim.Native.Nat.{◌-◌}
 use native.Mathlib.Omega.{arith}
-use borrow.Author.Tests.{not-true, not-false}
 use Rattle.text_words.proofs.Fronts.{goes_on}
 use Rattle.text_words.proofs.Keys.{letters_more, letters_end}
 use Rattle.text_words.proofs.letters_from.Goals as goal

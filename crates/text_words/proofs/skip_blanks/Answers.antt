@@ -1,5 +1,4 @@
 use mathlib.Core.Path.{sym, ◌∙◌}
-use Prim.Native.Nat.{◌-◌}
 use Rattle.text_words.specs.Words.{is_blank}
 use Rattle.text_words.specs.Laws.Words.{run_more, run_stop, run_end}
 use Rattle.text_words.proofs.skip_blanks.Goals as goal

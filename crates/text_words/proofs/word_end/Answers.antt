@@ -1,7 +1,6 @@
 use mathlib.Core.Path.{sym, ◌∙◌}
-use Prim.Native.Nat.{◌-◌}
 use native.Mathlib.Omega.{arith}
-use borrow.Author.Tests.{eqb-true, not-true, not-false}
+use borrow.Author.Tests.{eqb-true}
 use lib.ListN.{drop}
 use Rattle.text_words.specs.Words.{in_word, run}
 use Rattle.text_words.specs.Laws.Words.{run_more}

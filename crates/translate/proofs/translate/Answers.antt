@@ -1,4 +1,3 @@
-use Prim.Native.Nat.{◌-◌}
 use native.Mathlib.Omega.{arith}
 use Rattle.translate_rows.specs.Laws.Read.{is_job, in_limits}
 use Rattle.translate.specs.Laws.Read.{refused_as, too_short, translated_as, image_whole}

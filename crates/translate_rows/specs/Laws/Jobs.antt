@@ -1,5 +1,5 @@
 -- A whole job from its notes: its tasks as one body, each closed by a stop; and what is stored in an array is held there. Assumes nothing.
-use Rattle.std.specs.Prelude.{◌≡◌, refl, List, [], ◌∷◌, ◌++◌, ℕ, zero, suc, ◌+◌, ◌-◌, ◌*◌, ◌≤◌, ◌<◌, length, set, get_or}
+use Rattle.std.specs.Prelude.{◌≡◌, refl, List, [], ◌∷◌, ◌++◌, ℕ, zero, suc, ◌+◌, ◌*◌, ◌≤◌, ◌<◌, length, set, get_or}
 use Rattle.std.proofs.Common.{sym, ap, ◌∙◌, append_assoc, arith, length-set}
 use Rattle.std.proofs.lemmas.List.Edits.{sets}
 use Rattle.translate_rows.specs.Kinds.{Statement, Stop}

@@ -13,7 +13,6 @@ use Rattle.text_reader.specs.Reading.{Part, got, bad, bind, closed_by, closed, s
 use Rattle.text_reader.specs.Answers.{told, self, count_from, StmtTold, CaseTold, CasesTold, HeadTold}
 use Rattle.text_reader.specs.Laws.Parts.{bad_got, same_got, bind_got, told_got, Stops, All}
 use Rattle.text_reader.specs.Laws.Many.{ahead_got, ahead_last, many_got, many_last, counted_done}
-use Rattle.text_reader.specs.Laws.Heads as heads
 use Rattle.text_reader.specs.Laws.Heads.{stmt_of, head_told, stmt_of_lem}
 use Rattle.text_reader.specs.Laws.Sizes.{SizedS, SizedB, SizedCase, SizedC, stmt_sized, body_sized, case_sized, cases_sized}
 use Rattle.text_reader.specs.Laws.Selects.{behind_cases, cases_split}

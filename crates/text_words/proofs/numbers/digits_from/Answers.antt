@@ -1,5 +1,4 @@
 use mathlib.Core.Path.{refl, sym, ◌∙◌}
-use Prim.Native.Nat.{◌-◌}
 use Rattle.text_words.proofs.Decimals.{digits_more, digits_stop, digits_end}
 use Rattle.text_words.proofs.numbers.digits_from.Goals as goal
 

@@ -1,5 +1,5 @@
 use mathlib.Core.Path.{refl, ◌∙◌}
-use Prim.Native.Nat.{suc, ◌-◌}
+use Prim.Native.Nat.{suc}
 use native.Mathlib.Omega.{arith}
 use Rattle.translate_rows.specs.Laws.Laying.{case_lap, bodies_next, bodies_room, last_of, last_stored, body_lap, body_next, body_done, body_room}
 use Rattle.translate_rows.specs.Laws.Laying.{alone_stored, loop_held, loop_stored, if_held, if_stored, select_held, select_stored}

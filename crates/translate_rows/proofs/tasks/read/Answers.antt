@@ -1,4 +1,3 @@
-use Prim.Native.Nat.{◌-◌}
 use borrow.Author.Tests.{lt-ltb, le-ltb}
 use Rattle.text_reader.specs.Reading.{reading}
 use Rattle.text_reader.specs.Answers.{told_job}

@@ -1,4 +1,3 @@
-use Prim.Native.Nat.{◌-◌}
 use Rattle.text_reader.specs.Reading.{job}
 use Rattle.text_reader.specs.Laws.Jobs.{job_refused, tasks_cut, no_task, job_done}
 use Rattle.translate_rows.specs.Laws.Tasks.{stopped_job, job_noted}

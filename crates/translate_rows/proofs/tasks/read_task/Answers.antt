@@ -1,5 +1,5 @@
 use mathlib.Core.Path.{refl, sym, ◌∙◌}
-use Prim.Native.Nat.{suc, ◌-◌}
+use Prim.Native.Nat.{suc}
 use native.Mathlib.Omega.{arith}
 use Rattle.meaning.specs.Numbers.{row_limit}
 use Rattle.text_reader.specs.Laws.Parts.{bind_done, bind_stop}
