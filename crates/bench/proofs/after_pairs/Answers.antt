@@ -1,7 +1,6 @@
 use borrow.Author.Rules.{rules}
 use Rattle.bench.specs.Laws.Bench.{pair_step, pairs_end}
 use native.Mathlib.Omega.{arith}
-use Prim.Native.Nat.{◌-◌}
 use mathlib.Core.Path.{sym, ◌∙◌}
 use Rattle.bench.proofs.after_pairs.Goals as goal
 
