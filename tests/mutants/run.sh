@@ -2,124 +2,59 @@
 # Tries wrong definitions, one at a time, and says what refuses each. On demand, outside the gate.
 #
 # usage: tests/mutants/run.sh [NAME...]        NAME: a file NAME.edit of this folder; none: all of them
-#        CLAIMS_ONLY=1 tests/mutants/run.sh [NAME...]        the first copy alone
 #
-# A mutant is an edit as in crates/*/must-fail, with files named from the repository's root: `file:`, `old:`, `new:`. It is tried
-# on two copies of the crates below target/mutants, each with its own cache, so that nothing of the tree is altered:
-#   claims    the crates without their functions: definitions, theorems and examples alone. A crate takes some 2 seconds.
-#   whole     the crates as they stand, with every function and its proof. Asked only where no claim refuses the mutant.
-# In each the mutated crate comes first, then the crates that rest on it, and the first refusal ends the trial.
+# A mutant is an edit as in crates/*/must-fail, with files named from the repository's root: `file:`, `old:`, `new:`. It is applied
+# to a copy of the crates in a temporary folder, so that nothing of the tree is altered. There `rt check` proves the mutated crate
+# first, then the libraries that rest on it, and the first refusal ends the trial. Ahead of each the same crate is proved as it
+# stands, in a second copy and once a run, since a crate that is not proved unchanged shows nothing. rt begins with what it kept of
+# the same crates, so that only what a mutant changes is proved again; a tree of which nothing is kept is proved once.
 #
 # It prints for each mutant: its name, a class, the crate, the file and line of the first error and what is refused there.
 #   a      a claim over worked examples is false (a file of $worked has an error)
 #   b      a theorem's or a function's proof fails
 #   c      not refused by anything: a hole
-#   bad    the edit fits no text, or the definition is no longer well formed: it shows nothing
+#   bad    the edit fits no text, the definition is no longer well formed, or rt could not tell: it shows nothing
 # The last line is 'N mutants, A refused by a claim, B by a proof, C not refused'. The status is 0 where none is c or bad.
 set -u
 cd "$(dirname "$0")/../.." || exit 2
-root=$(pwd -P)
-here=$root/tests/mutants
-work=$root/target/mutants
+here=$PWD/tests/mutants
 worked='^[a-z_]*/specs/Laws/Examples\.antt:\|^agreement/specs/Laws/Table\.antt:'
 command -v rt >/dev/null || { echo "rt, the command of the Rattle kit, is not on the path" >&2; exit 2; }
-RT_JOBS=${RT_JOBS:-1}
-RT_CUT=0
-export RT_JOBS RT_CUT
+work=$(mktemp -d) || exit 2
+trap 'rm -rf "$work"' EXIT
+trap 'exit 130' HUP INT TERM
 
-crates=$(sed 's/#.*//; /staticlib/d; s/:.*//' crates.txt)
-# Every library; a program has no definitions, and a static library only passes calls on.
-libraries=$(for c in $crates; do [ -f "crates/$c/src/lib.rt" ] && echo "$c"; done)
+copy() { # INTO: the crates as they stand
+    mkdir "$work/$1" && tar -c --no-wildcards-match-slash --exclude='crates/*/out' crates crates.txt | tar -x -C "$work/$1" || exit 2
+}
 
-deps_of() { sed 's/#.*//' "$root/crates.txt" | sed -n "s/^ *$1 *: *//p"; }
-
-# The crates that rest on $1, the crate itself first, in an order in which each follows what it rests on; ahead of others those that
-# are quick and have tables of examples.
+# The libraries that rest on $1, the crate itself first, in an order in which each follows what it rests on: that of crates.txt, but
+# ahead of others those that are quick and have tables of examples. A program has no definitions, and a static library only passes
+# calls on.
 soon='image_rows image_row image_check text_words text_reader'
 above() {
-    reached=" $1 "
-    echo "$1"
-    grew=1
-    while [ "$grew" = 1 ]; do
-        grew=0
-        for c in $soon $libraries; do
-            case $reached in *" $c "*) continue ;; esac
-            rests=0 ready=1
-            for d in $(deps_of "$c"); do
-                case $reached in *" $d "*) rests=1 ;; esac
-                # a dependency that itself rests on $1 has to come first
-                case $reached in *" $d "*) ;; *) case " $(deps_of "$d") " in *" $1 "*) ready=0 ;; esac ;; esac
-            done
-            if [ "$rests" = 1 ] && [ "$ready" = 1 ]; then
-                reached="$reached$c "
-                echo "$c"
-                grew=1
-            fi
-        done
+    reached=$(awk -v of="$1" '
+        { sub(/#.*/, "") }
+        /:/ {
+            split($0, part, ":")
+            split(part[1], head, " ")
+            rests = head[1] == of
+            n = split(part[2], dep, " ")
+            for (i = 1; i <= n; i++) if (dep[i] in reached) rests = 1
+            if (rests) reached[head[1]]
+            if (rests && part[1] !~ /staticlib/) printf "%s ", head[1]
+        }' crates.txt)
+    order=" $1 "
+    for c in $soon $reached; do
+        [ -f "crates/$c/src/lib.rt" ] || continue
+        case $order in *" $c "*) continue ;; esac
+        case " $reached" in *" $c "*) order="$order$c " ;; esac
     done
+    echo "$order"
 }
 
-# A crate's files without functions, contracts and proofs: the kinds that src/ declares, and specs/.
-strip() { # CRATE INTO
-    mkdir -p "$2/src"
-    [ -d "$root/crates/$1/specs" ] && cp -R "$root/crates/$1/specs" "$2/specs"
-    for f in "$root/crates/$1/src"/*.rt; do
-        awk '
-            skip { if ($0 ~ /^}/) skip = 0; next }
-            /^ghost use / { next }
-            /^(pub )?use / { n = $0; sub(/;.*/, "", n); sub(/.*::/, "", n); if (n ~ /^[a-z]/) next }
-            /^#\[no_mangle\]/ { next }
-            /^(pub(\(crate\))? )?(extern "C" )?fn / { if ($0 !~ /}$/) skip = 1; next }
-            { print }' "$f" >"$2/src/$(basename "$f")"
-    done
-}
-
-# Makes or refreshes the two copies. What was proved in them before is kept: rt goes by what the files hold.
-mkdir -p "$work/claims" "$work/whole"
-for tree in claims whole; do
-    rm -rf "${work:?}/$tree/crates"
-    mkdir -p "$work/$tree/crates" "$work/$tree/target"
-    for c in $libraries; do
-        case $tree in
-        claims) strip "$c" "$work/claims/crates/$c" ;;
-        whole) mkdir "$work/whole/crates/$c" && for part in src specs proofs; do [ -d "crates/$c/$part" ] && cp -R "crates/$c/$part" "$work/whole/crates/$c/$part"; done ;;
-        esac
-    done
-    for c in $libraries; do grep "^ *$c *:" crates.txt; done >"$work/$tree/crates.txt"
-done
-# What the tree itself has proved since then need not be proved again.
-mkdir -p "$work/whole/target/stamp" "$work/whole/target/rlib"
-for c in $libraries; do
-    t=$work/whole/target
-    [ -f "target/stamp/$c" ] && [ -d "target/rlib/$c.rlib" ] || continue
-    if [ ! -f "$t/stamp/$c" ] || [ -n "$(find "target/stamp/$c" -newer "$t/stamp/$c")" ]; then
-        rm -rf "$t/stamp/$c" "$t/rlib/$c.rlib"
-        cp -R "target/rlib/$c.rlib" "$t/rlib/$c.rlib"
-        cp "target/stamp/$c" "$t/stamp/$c"
-    fi
-done
-
-# What a crate was proved to, unmutated, is set aside and put back behind a mutant.
-aside() { # TREE CRATE
-    a=$work/$1/aside t=$work/$1/target
-    mkdir -p "$a"
-    rm -rf "$a/$2.rlib" "$a/$2.stamp"
-    if [ -f "$t/stamp/$2" ] && [ -d "$t/rlib/$2.rlib" ]; then
-        cp -R "$t/rlib/$2.rlib" "$a/$2.rlib"
-        cp "$t/stamp/$2" "$a/$2.stamp"
-    fi
-}
-back() { # TREE CRATE
-    a=$work/$1/aside t=$work/$1/target
-    rm -rf "$t/rlib/$2.rlib" "$t/stamp/$2"
-    if [ -f "$a/$2.stamp" ]; then
-        mv "$a/$2.rlib" "$t/rlib/$2.rlib"
-        mv "$a/$2.stamp" "$t/stamp/$2"
-    fi
-}
-
-# Applies an edit to a tree; says what is wrong with it, if anything.
-edited() { # EDIT TREE
+# Applies an edit to the copy; says what is wrong with it, if anything.
+edited() { # EDIT
     f='' old='' pairs=0
     while IFS= read -r line || [ -n "$line" ]; do
         case $line in
@@ -129,7 +64,7 @@ edited() { # EDIT TREE
             new=${line#new:}
             new=${new# }
             case $f in crates/*/specs/*.antt) ;; *) echo "no file of definitions: $f"; return ;; esac
-            [ -f "$work/$2/$f" ] || { echo "no such file: $f"; return; }
+            [ -f "$work/tried/$f" ] || { echo "no such file: $f"; return; }
             OLD=$old NEW=$new awk '
                 { text = text $0 "\n" }
                 END {
@@ -140,8 +75,8 @@ edited() { # EDIT TREE
                     rest = substr(text, at + length(old))
                     if (index(rest, old)) exit 4
                     printf "%s%s%s", substr(text, 1, at - 1), new, rest
-                }' "$work/$2/$f" >"$work/edited" || { echo "an 'old:' text does not stand once in $f"; return; }
-            cp "$work/edited" "$work/$2/$f"
+                }' "$work/tried/$f" >"$work/edited" || { echo "an 'old:' text does not stand once in $f"; return; }
+            cp "$work/edited" "$work/tried/$f"
             old='' pairs=$((pairs + 1))
             ;;
         esac
@@ -149,55 +84,57 @@ edited() { # EDIT TREE
     [ "$pairs" -gt 0 ] || echo "it has no pair of 'old:' and 'new:'"
 }
 
-# Checks the crates from $crate on in a tree with the edit applied; sets class and where, or leaves class empty.
-try() { # EDIT TREE
-    wrong=$(edited "$1" "$2")
-    tried=''
-    if [ -n "$wrong" ]; then
-        class=bad where=$wrong
-    else
-        for c in $order; do
-            aside "$2" "$c"
-            tried="$tried $c"
-            if ! (cd "$work/$2" && rt check "$c") >"$work/said" 2>&1; then
-                cp "$work/$2/target/log/$c.out" "$work/log/$label.$2" 2>/dev/null
-                errors=$(grep -o "^[^ ]*: error: [^:]*" "$work/$2/target/log/$c.out" | sed "s|^.*/crates/||; s|: error: | |")
-                at=$(printf '%s\n' "$errors" | grep "$worked" | head -n 1)
-                class=a
-                [ -n "$at" ] || { class=b at=$(printf '%s\n' "$errors" | head -n 1); }
-                case $errors in *"${file#crates/}:"*) class=bad at=$(printf '%s\n' "$errors" | grep "${file#crates/}:" | head -n 1) ;; esac
-                [ -n "$at" ] || { class=bad at="$c: $(head -n 1 "$work/$2/target/log/$c.out")"; }
-                where="$c: ${at#"$c"/}"
-                break
-            fi
-        done
-    fi
-    for c in $tried; do back "$2" "$c"; done
-    for f in $(sed -n 's/^file: //p' "$1"); do [ -f "$f" ] && cp "$f" "$work/$2/$f"; done
+check() { # COPY CRATE
+    (cd "$work/$1/crates/$2" && rt check) >"$work/said" 2>&1 </dev/null
 }
 
-mkdir -p "$work/log"
+# The first thing that the last check said of an error, or its last line.
+first_said() { { grep -m 1 ': error: ' "$work/said" || tail -n 1 "$work/said"; } | cut -c 1-200; }
+
+# Whether a crate is proved as it stands.
+stands() { # CRATE
+    case $standing in *" $1 "*) return 0 ;; esac
+    [ -d "$work/plain" ] || copy plain
+    check plain "$1" && standing="$standing$1 "
+}
+standing=' '
+
+# Checks the crates from $crate on in the copy with the edit applied; sets class and where, or leaves class empty.
+try() { # EDIT
+    file=$(sed -n 's/^file: //p' "$1" | head -n 1)
+    crate=${file#crates/}
+    crate=${crate%%/*}
+    for c in $(above "$crate"); do
+        stands "$c" || { class=bad where="$c: not proved as it stands: $(first_said)"; return; }
+        check tried "$c" && continue
+        status=$?
+        [ "$status" -eq 1 ] || { class=bad where="$c: status $status of rt: $(first_said)"; return; }
+        # an error that only says what was not looked at, since it rests on something refused, tells nothing of its own
+        errors=$(grep -o '^[^ ]*: error: [^:]*' "$work/said" | grep -v ': error: [0-9]* declaration' | sed "s|^\./|$c/|; s|: error: | |")
+        class=a at=$(printf '%s\n' "$errors" | grep "$worked" | head -n 1)
+        [ -n "$at" ] || { class=b at=$(printf '%s\n' "$errors" | head -n 1); }
+        [ -n "$at" ] || at=$(grep -m 1 ': not proved\|: no proof' "$work/said")
+        own=$(printf '%s\n' "$errors" | grep -F "$(sed -n 's/^file: crates\///p' "$1")" | head -n 1)
+        [ -z "$own" ] || { class=bad at=$own; }
+        [ -n "$at" ] || { class=bad at=$(first_said); }
+        where="$c: ${at#"$c"/}"
+        return
+    done
+}
+
 if [ $# -eq 0 ]; then
     for e in "$here"/*.edit; do set -- "$@" "$(basename "$e" .edit)"; done
 fi
-# The unmutated claims must hold, or nothing is shown.
-# shellcheck disable=SC2086
-(cd "$work/claims" && rt check $libraries) >"$work/said" 2>&1 || { tail -n 20 "$work/said"; echo "the crates are not proved as they stand"; exit 2; }
-
 n=0 as=0 bs=0 cs=0 bads=0
 for label; do
     label=$(basename "$label" .edit)
     edit=$here/$label.edit
     [ -f "$edit" ] || { echo "no mutant $label" >&2; exit 2; }
-    file=$(sed -n 's/^file: //p' "$edit" | head -n 1)
-    crate=${file#crates/}
-    crate=${crate%%/*}
-    order=$(above "$crate")
     began=$(date +%s)
-    class='' where=''
-    try "$edit" claims
-    if [ -z "$class" ] && [ -n "${CLAIMS_ONLY:-}" ]; then class='?' where='not refused by any claim or theorem'; fi
-    [ -n "$class" ] || try "$edit" whole
+    copy tried
+    class='' where=$(edited "$edit")
+    if [ -n "$where" ]; then class=bad; else try "$edit"; fi
+    rm -rf "$work/tried"
     [ -n "$class" ] || class=c where='not refused'
     n=$((n + 1))
     case $class in a) as=$((as + 1)) ;; b) bs=$((bs + 1)) ;; c) cs=$((cs + 1)) ;; *) bads=$((bads + 1)) ;; esac
