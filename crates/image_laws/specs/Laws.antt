@@ -1,8 +1,4 @@
--- What is proved of the definitions: nothing here has to be believed.
+-- What is proved of the definitions: nothing here has to be believed. More stands in proofs/.
 pub mod Limits
-pub mod Rows
-pub mod ReadBack
-pub mod Passes
-pub mod Same
 pub mod Closed
 pub mod Whole

@@ -1,5 +1,3 @@
--- What is proved of the definitions: nothing here has to be believed.
-pub mod Single
-pub mod Laps
+-- What is proved of the definitions: nothing here has to be believed. More stands in proofs/.
 pub mod Done
 pub mod Examples

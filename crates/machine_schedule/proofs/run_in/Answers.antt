@@ -7,7 +7,7 @@ use Rattle.meaning.specs.Bytes.{body_of}
 use Rattle.image_rows.specs.Rows.{counts_in, counts_of}
 use Rattle.machine_records.specs.Step.{stepped}
 use Rattle.machine_store.specs.Store.{MadeTurn}
-use Rattle.machine_turns.specs.Laws.Laps.{ahead_begin, ahead_lap, ahead_end}
+use Rattle.machine_turns.proofs.Laps.{ahead_begin, ahead_lap, ahead_end}
 use borrow.Author.Rules.{rules}
 use Rattle.machine_schedule.proofs.run_in.Goals as goal
 

@@ -1,6 +1,6 @@
 use mathlib.Core.Path.{◌≡◌}
 use Prim.Native.Nat.{◌-◌, ◌%◌, ◌≤◌}
-use Rattle.machine_turns.specs.Laws.Laps.{Ahead}
+use Rattle.machine_turns.proofs.Laps.{Ahead}
 use Rattle.machine_schedule.proofs.run_in.Given as goal
 
 abbrev pub invariant-loop-i : goal.invariant-loop-i

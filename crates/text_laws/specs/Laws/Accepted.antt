@@ -11,9 +11,9 @@ use Rattle.meaning.specs.Layout.{rows_t}
 use Rattle.meaning.specs.Bytes.{trailer_size, span_of, job_image, rows_of, start_of}
 use Rattle.image_check.specs.Check.{checked}
 use Rattle.image_laws.specs.Proper.{Proper}
-use Rattle.image_laws.specs.Laws.ReadBack.{image-length}
-use Rattle.image_laws.specs.Laws.Passes.{laid_good}
-use Rattle.image_laws.specs.Laws.Same.{same_runs}
+use Rattle.image_laws.proofs.ReadBack.{image-length}
+use Rattle.image_laws.proofs.Passes.{laid_good}
+use Rattle.image_laws.proofs.Same.{same_runs}
 use Rattle.text_words.specs.Words.{first_not_allowed}
 use Rattle.text_reader.specs.Reading.{got, reading}
 use Rattle.text_reader.specs.Laws.Parts.{bad_got}

@@ -8,7 +8,7 @@ use Rattle.meaning.specs.Layout.{case_count, size_s, size_b, size_c, rows_t}
 use Rattle.image_check.specs.Sound.{PortSound}
 use Rattle.meaning_laws.specs.Lists.{All}
 use Rattle.image_laws.specs.Proper.{ProperOp, ProperS, ProperB, ProperC, Proper}
-use Rattle.image_laws.specs.Laws.Rows.{size_t}
+use Rattle.image_laws.proofs.Rows.{size_t}
 use Rattle.text_words.specs.Words.{no_kind, chan_kind, task_kind, send_kind, forward_kind, recv_kind, close_kind, range_kind, repeat_kind, ifok_kind, select_kind, case_kind, stop_kind, end_kind, number_kind, word_at}
 use Rattle.text_reader.specs.Reading.{Part}
 use Rattle.text_reader.specs.Laws.Parts.{Holds}

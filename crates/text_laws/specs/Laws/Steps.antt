@@ -6,7 +6,7 @@ use Prim.Native.Nat.{ℕ, zero, suc, ◌+◌, ◌-◌, ◌≤◌, ◌<◌}
 use Rattle.text_laws.specs.Kinds.{Word}
 use Rattle.meaning.specs.Numbers.{case_limit, lap_limit, depth_limit, row_limit}
 use Rattle.meaning.specs.Text.{Stmt, Body}
-use Rattle.image_laws.specs.Laws.Rows.{positive}
+use Rattle.image_laws.proofs.Rows.{positive}
 use Rattle.text_words.specs.Words.{else_kind, case_kind, default_kind, close_kind, stop_kind, range_kind, repeat_kind, ifok_kind, select_kind, word_at}
 use Rattle.text_reader.specs.Reading.{Part, got, none, bad, bind, number, port, with_row, as_block, second_by, case_op, case_by, last_by, cases_from, is_op_word, stmt_by, body_from, reading}
 use Rattle.text_reader.specs.Laws.Many.{ahead_same, many_by}

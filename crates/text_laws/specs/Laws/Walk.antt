@@ -14,7 +14,7 @@ use Rattle.meaning.specs.Text.{Stmt, range, repeat, ifok, select, Body, empty, C
 use Rattle.meaning.specs.Layout.{case_count, size_s, size_b, size_c, rows_t}
 use Rattle.meaning.specs.Laws.Tests.{cond_all}
 use Rattle.image_laws.specs.Proper.{Proper}
-use Rattle.image_laws.specs.Laws.Rows.{size_t, rows_t_size, positive}
+use Rattle.image_laws.proofs.Rows.{size_t, rows_t_size, positive}
 use Rattle.text_words.specs.Words.{no_kind, chan_kind, task_kind, send_kind, forward_kind, recv_kind, close_kind, range_kind, repeat_kind, ifok_kind, else_kind, select_kind, case_kind, default_kind, stop_kind, end_kind, nil_kind, number_kind, word_at, first_not_allowed}
 use Rattle.text_reader.specs.Reading.{Part, got, none, bad, bind, misplaced, number_by, number, closed_by, closed, port_by, port, op_by, with_row, as_block, second_by, or_misplaced, case_op, case_by, last_by, cases_from, is_op_word, stmt_by, body_from, body, chan_by, chans_from, task_end, task_by, tasks_from, job_of, job, allowed_by, reading}
 use Rattle.text_reader.specs.Laws.Parts.{bind_holds}

@@ -8,7 +8,7 @@ use Rattle.meaning.specs.Numbers.{task_limit}
 use Rattle.meaning.specs.Text.{Body}
 use Rattle.meaning.specs.Layout.{first_rows}
 use Rattle.meaning.specs.Bytes.{two, first_bytes}
-use Rattle.image_laws.specs.Laws.Rows.{first_rows-length}
+use Rattle.image_laws.proofs.Rows.{first_rows-length}
 use Rattle.translate_rows.specs.Noted.{first_numbers}
 use Rattle.translate.specs.Kinds.{Row}
 use Rattle.translate.specs.Stored.{pairs}

@@ -8,8 +8,8 @@ use Rattle.meaning.specs.Text.{Job}
 use Rattle.meaning.specs.Layout.{rows_t, first_rows}
 use Rattle.meaning.specs.Bytes.{row_size, fields_of, bytes_of, row_bytes, first_bytes, trailer, image_bytes, job_image}
 use Rattle.image_rows.specs.Rows.{fields_put, row_put}
-use Rattle.image_laws.specs.Laws.Rows.{first_rows-length}
-use Rattle.image_laws.specs.Laws.ReadBack.{row_bytes-length, first_bytes-length, image-length}
+use Rattle.image_laws.proofs.Rows.{first_rows-length}
+use Rattle.image_laws.proofs.ReadBack.{row_bytes-length, first_bytes-length, image-length}
 use Rattle.translate_rows.specs.RowsPut.{rows_put}
 
 -- Bytes stored one behind the other.

@@ -7,7 +7,7 @@ use Rattle.meaning.specs.Numbers.{row_limit}
 use Rattle.meaning.specs.Text.{Body, empty, ◌▸◌}
 use Rattle.meaning.specs.Image.{row_no}
 use Rattle.meaning.specs.Layout.{size_s, size_b, entry, rows_s, rows_b, rows_t}
-use Rattle.image_laws.specs.Laws.Rows.{size_t, rows_t_size, entry_first}
+use Rattle.image_laws.proofs.Rows.{size_t, rows_t_size, entry_first}
 use Rattle.translate_notes.specs.Notes.{op_s, chan_s, arg_s, inside_s, notes_s, notes_b, closed_with, all_of}
 use Rattle.translate_notes.specs.Laws.Notes.{notes_b_length}
 use Rattle.translate_rows.specs.RowsPut.{rows_put}

@@ -12,7 +12,7 @@ use Rattle.meaning.specs.Image.{row_no}
 use Rattle.meaning.specs.Layout.{case_count, size_s, size_b, size_c, entry, case_rows, default_row, rows_s, rows_b, rows_c}
 use Rattle.meaning.specs.Bytes.{fields_of}
 use Rattle.image_rows.specs.Rows.{fields_put, row_put}
-use Rattle.image_laws.specs.Laws.Rows.{case_rows_length, rows_s_length, rows_b_length, positive}
+use Rattle.image_laws.proofs.Rows.{case_rows_length, rows_s_length, rows_b_length, positive}
 use Rattle.translate_notes.specs.Notes.{op_code, op_port, op_arg, last_arg, op_s, chan_s, arg_s, inside_s, notes_s, notes_b, notes_c}
 use Rattle.translate_fields.specs.Rows.{first_of, leads_to, select_fields, row_fields, note_fields, case_fields}
 use Rattle.translate_notes.specs.Laws.Notes.{inside_length, notes_b_length}

@@ -19,8 +19,8 @@ use Rattle.meaning.specs.Bytes.{job_image, rows_of, start_of}
 use Rattle.meaning_laws.specs.Lists.{All}
 use Rattle.meaning_laws.specs.Laws.Natural.{map_case, map_look, cond_map, fresh-map, runs_seen}
 use Rattle.image_laws.specs.Proper.{ProperS, ProperB, ProperC, Proper}
-use Rattle.image_laws.specs.Laws.Rows.{entry_first, Holds, split_cases, split_s, split_b}
-use Rattle.image_laws.specs.Laws.ReadBack.{capacities_of_back, first_rows_of_back, rows_of_back}
+use Rattle.image_laws.proofs.Rows.{entry_first, Holds, split_cases, split_s, split_b}
+use Rattle.image_laws.proofs.ReadBack.{capacities_of_back, first_rows_of_back, rows_of_back}
 
 -- LAP COUNTS
 

@@ -17,7 +17,7 @@ use Rattle.image_row.specs.Row.{owed_after}
 use Rattle.image_check.specs.Sound.{PortSound}
 use Rattle.meaning_laws.specs.Lists.{All}
 use Rattle.image_laws.specs.Proper.{Proper}
-use Rattle.image_laws.specs.Laws.Rows.{first_rows-length, Holds, list_rows, holds_self, Aim, StatementLawful, RowsLawful, laid_t, firsts_aim}
+use Rattle.image_laws.proofs.Rows.{first_rows-length, Holds, list_rows, holds_self, Aim, StatementLawful, RowsLawful, laid_t, firsts_aim}
 
 -- WHAT STANDS AT A PLACE, where the bytes from there on are known
 

@@ -20,8 +20,8 @@ use Rattle.image_check.specs.Check.{owed_at, capacity_bad, row_bad, first_row_ba
 use Rattle.image_check.specs.Sound.{is_case, PortSound}
 use Rattle.meaning_laws.specs.Lists.{All}
 use Rattle.image_laws.specs.Proper.{ProperOp, Proper}
-use Rattle.image_laws.specs.Laws.Rows.{Holds, Aim, OtherwiseLawful, CasesLawful, StatementLawful, RowsLawful, rows_t-length, laid_t, firsts_aim}
-use Rattle.image_laws.specs.Laws.ReadBack.{Written, written, written_holds, image-length, row_count_back, channel_count_back, task_count_back, distance_back, mark_of_back, version_of_back, body_of_back, capacities_tabulated, firsts_tabulated}
+use Rattle.image_laws.proofs.Rows.{Holds, Aim, OtherwiseLawful, CasesLawful, StatementLawful, RowsLawful, rows_t-length, laid_t, firsts_aim}
+use Rattle.image_laws.proofs.ReadBack.{Written, written, written_holds, image-length, row_count_back, channel_count_back, task_count_back, distance_back, mark_of_back, version_of_back, body_of_back, capacities_tabulated, firsts_tabulated}
 
 and_true : {a b : Bool} → a ≡ true → b ≡ true → (a && b) ≡ true
 and_true e f = rw (e, f)
