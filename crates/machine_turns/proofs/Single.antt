@@ -6,19 +6,14 @@ use mathlib.Core.List.{List, [], ◌∷◌, ◌++◌, map}
 use Prim.Native.Nat.{ℕ, zero, suc, ◌*◌, ◌<◌}
 use native.Mathlib.Omega.{arith}
 use Rattle.std.proofs.Math.ListN.{take}
-use Rattle.machine_turns.specs.Kinds.{Task, Event, State, Turned}
+use Rattle.machine_turns.specs.Kinds.{Task, State, Turned}
 use Rattle.meaning.specs.Events.{numbers}
 use Rattle.events.specs.Record.{event_record}
 use Rattle.machine_records.specs.Values.{Values, changed}
 use Rattle.machine.specs.Public.{turned}
 use Rattle.machine.specs.Runs.{turns, seen_turns}
 use Rattle.machine_turns.specs.Schedule.{state_behind, values_behind, event_records}
-
--- The records of these turns of these tasks, one behind the other.
-unfoldable pub records_told : List (Task × ℕ) → List Event → List ℕ
-records_told [] es = []
-records_told (p ∷ ps) [] = []
-records_told (p ∷ ps) (e ∷ es) = event_record p.0 (numbers e) ++ records_told ps es
+use Rattle.machine_turns.specs.Told.{records_told}
 
 -- The record of the n-th turn stands at the n-th place: document 01's numbers of the event that turn answered, refused or not, with
 -- the task that was asked for.

@@ -1,4 +1,5 @@
 pub mod Kinds
 pub mod Schedule
 pub mod Loop
+pub mod Told
 pub mod Laws

@@ -19,7 +19,8 @@ use Rattle.machine.specs.Public.{started, fresh_values}
 use Rattle.machine.specs.Runs.{turns, seen_turns}
 use Rattle.machine.specs.Laws.Reached.{reached_fits, reached_means}
 use Rattle.machine_turns.specs.Schedule.{event_records}
-use Rattle.machine_turns.proofs.Single.{records_told, records_told_lem}
+use Rattle.machine_turns.specs.Told.{records_told}
+use Rattle.machine_turns.proofs.Single.{records_told_lem}
 
 -- The events of turns, as they are seen.
 events_of_lem : {P : Type 0} (rs : List (Turned P)) → map (λ r. r.event) rs ≡ map (λ p. p.0) (map seen_turn rs)
