@@ -1,5 +1,7 @@
 // One block: its call made, and the answer, the state and the records held to what the block tells. A block that can't be read to its
 // end, line by line in the order due, is never the same.
+ghost use Rattle.std.specs.Prelude.{◌≡◌, ◌≢◌, ◌<◌, ◌≤◌, ◌↔◌, length, slice_index, slice_range, codes, IsTrue};
+
 use crate::lines::{
     Line, ROOM, bytes_due, bytes_of, first, held, line_due, next_told, same, told, two_numbers,
 };
@@ -50,7 +52,12 @@ struct Due {
 // THE INPUTS
 
 // The line that names the block: there is none ahead of it.
-pub fn name_line(block: &[u8]) -> Line {
+pub(crate) fn name_line(block: &[u8]) -> Line
+    ensures tells { result.at < length block.now → (slice_index block.now result.at ≢ 10) × (slice_index block.now result.at ≢ 35) }
+    ensures key { result.at ≤ length block.now → (IsTrue result.good ↔ (slice_range block.now result.at result.from ≡ codes "==")) }
+    ensures end { result.to < length block.now → slice_index block.now result.to ≡ 10 }
+    ensures none { result.bytes ≡ 0 }
+{
     let ahead = Line {
         good: true,
         at: 0,
@@ -315,7 +322,7 @@ fn called(
 }
 
 // The verdict on a block.
-pub fn judged(block: &[u8]) -> Verdict {
+pub(crate) fn judged(block: &[u8]) -> Verdict {
     let mut image = [0u8; ROOM];
     let mut record = [0u8; ROOM];
     let mut pairs = [0u8; ROOM];

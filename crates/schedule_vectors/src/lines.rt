@@ -1,6 +1,6 @@
 // A text of blocks, line by line, and what a line tells: a word, two numbers, bytes. Every text is answered: a line that is not the
 // one due, or can't be read, is one that is not good, and so is every line behind it.
-ghost use Rattle.std.specs.Prelude.{◌≡◌, ◌<◌, ◌≤◌, length};
+ghost use Rattle.std.specs.Prelude.{◌≡◌, ◌≢◌, ℕ, ◌+◌, ◌-◌, ◌<◌, ◌≤◌, ◌↔◌, [], true, false, length, slice_index, slice_range, ◌==◌, ◌||◌, IsTrue, if◌then◌else◌};
 
 use image_rows::bytes::byte_at;
 
@@ -56,7 +56,11 @@ struct Run {
 // PARTS
 
 // The bytes from one place up to another: none where there are no such places.
-pub fn part(s: &[u8], from: usize, to: usize) -> &[u8] {
+pub(crate) fn part(s: &[u8], from: usize, to: usize) -> &[u8]
+    ensures there { from ≤ to → to ≤ length s.now → result.now ≡ slice_range s.now from to }
+    ensures crossed { to < from → result.now ≡ [] }
+    ensures past { length s.now < to → result.now ≡ [] }
+{
     if to <= s.len() {
         if from <= to {
             return &s[from..to];
@@ -66,18 +70,27 @@ pub fn part(s: &[u8], from: usize, to: usize) -> &[u8] {
 }
 
 // The first bytes of a buffer.
-pub fn first(room: &[u8; ROOM], n: usize) -> &[u8] {
+pub(crate) fn first(room: &[u8; ROOM], n: usize) -> &[u8]
+    ensures there { n ≤ ROOM → result.now ≡ slice_range room.now 0 n }
+    ensures past { ROOM < n → result.now ≡ [] }
+{
     part(room, 0, n)
 }
 
 // Whether two slices hold the same bytes.
-pub fn same(a: &[u8], b: &[u8]) -> bool {
+pub(crate) fn same(a: &[u8], b: &[u8]) -> bool
+    ensures { IsTrue result ↔ (a.now ≡ b.now) }
+{
     a == b
 }
 
 // The first place from `at` on with this byte, or the text's end.
-pub fn up_to(text: &[u8], at: usize, byte: u8) -> usize
-    ensures { at ≤ result }
+pub(crate) fn up_to(text: &[u8], at: usize, byte: u8) -> usize
+    ensures ahead { at ≤ result }
+    ensures within { at ≤ length text.now → result ≤ length text.now }
+    ensures past { length text.now ≤ at → result ≡ at }
+    ensures passed { (k : ℕ) → at ≤ k → k < result → slice_index text.now k ≢ byte }
+    ensures found { result < length text.now → slice_index text.now result ≡ byte }
 {
     for i in at..text.len() {
         if text[i] == byte {
@@ -90,15 +103,24 @@ pub fn up_to(text: &[u8], at: usize, byte: u8) -> usize
 // LINES
 
 // Where the word at `at` ends: at a blank, or with its line.
-pub fn word_end(text: &[u8], at: usize) -> usize {
+pub(crate) fn word_end(text: &[u8], at: usize) -> usize
+    ensures ahead { at ≤ result }
+    ensures within { at ≤ length text.now → result ≤ length text.now }
+    ensures past { length text.now ≤ at → result ≡ at }
+    ensures word { (k : ℕ) → at ≤ k → k < result → (slice_index text.now k ≢ 10) × (slice_index text.now k ≢ 32) }
+    ensures ends { result < length text.now → slice_index text.now result ≢ 10 → slice_index text.now result ≡ 32 }
+{
     let line_end = up_to(text, at, b'\n');
     up_to(part(text, 0, line_end), at, b' ')
 }
 
 // Where the line behind the one at `at` begins, or the text's end.
-pub fn next_line(text: &[u8], at: usize) -> usize
+pub(crate) fn next_line(text: &[u8], at: usize) -> usize
     requires { at < length text.now }
-    ensures { at < result }
+    ensures ahead { at < result }
+    ensures within { result ≤ length text.now }
+    ensures line { (k : ℕ) → at ≤ k → k + 1 < result → slice_index text.now k ≢ 10 }
+    ensures ends { result < length text.now → slice_index text.now (result - 1) ≡ 10 }
 {
     let end = up_to(text, at, b'\n');
     if end < text.len() {
@@ -109,13 +131,23 @@ pub fn next_line(text: &[u8], at: usize) -> usize
 }
 
 // Whether a line is empty or for people.
-fn tells_nothing(text: &[u8], at: usize) -> bool {
+fn tells_nothing(text: &[u8], at: usize) -> bool
+    ensures { result ≡ (slice_index text.now at == 10 || slice_index text.now at == 35) }
+{
     let first = byte_at(text, at);
     if first == b'\n' { true } else { first == b'#' }
 }
 
 // Where the first line from `at` on that tells something begins, or the text's end.
-pub fn next_told(text: &[u8], at: usize) -> usize {
+pub(crate) fn next_told(text: &[u8], at: usize) -> usize
+    ensures ahead { at ≤ result }
+    ensures past { length text.now ≤ at → result ≡ at }
+    ensures within { at ≤ length text.now → result ≤ length text.now }
+    ensures tells { result < length text.now → (slice_index text.now result ≢ 10) × (slice_index text.now result ≢ 35) }
+    ensures begins { result ≢ at → result < length text.now → slice_index text.now (result - 1) ≡ 10 }
+    ensures first { slice_index text.now at ≢ 10 → slice_index text.now at ≢ 35 → result ≡ at }
+    ensures passed { (k : ℕ) → at < k → k < result → slice_index text.now (k - 1) ≡ 10 → slice_index text.now k ≢ 10 → slice_index text.now k ≡ 35 }
+{
     let mut i = at;
     while i < text.len() {
         if !tells_nothing(text, i) {
@@ -127,7 +159,9 @@ pub fn next_told(text: &[u8], at: usize) -> usize {
 }
 
 // The same line, good only where this holds too.
-pub fn held(mut line: Line, holds: bool) -> Line {
+pub(crate) fn held(mut line: Line, holds: bool) -> Line
+    ensures { result ≡ (if holds then line else record line { good = false }) }
+{
     if !holds {
         line.good = false;
     }
@@ -135,7 +169,14 @@ pub fn held(mut line: Line, holds: bool) -> Line {
 }
 
 // The next line that tells something: good where it has the key that is due there.
-pub fn line_due(text: &[u8], before: Line, key: &[u8]) -> Line {
+pub(crate) fn line_due(text: &[u8], before: Line, key: &[u8]) -> Line
+    ensures kept { before.good ≡ false → result ≡ before }
+    ensures ahead { before.good ≡ true → before.to ≤ result.at }
+    ensures tells { before.good ≡ true → result.at < length text.now → (slice_index text.now result.at ≢ 10) × (slice_index text.now result.at ≢ 35) }
+    ensures key { before.good ≡ true → result.at ≤ length text.now → (IsTrue result.good ↔ (slice_range text.now result.at result.from ≡ key.now)) }
+    ensures end { before.good ≡ true → result.to < length text.now → slice_index text.now result.to ≡ 10 }
+    ensures none { before.good ≡ true → result.bytes ≡ 0 }
+{
     if !before.good {
         return before;
     }
@@ -153,7 +194,11 @@ pub fn line_due(text: &[u8], before: Line, key: &[u8]) -> Line {
 // WHAT A LINE TELLS
 
 // What a line tells, as it stands in the text.
-pub fn told(text: &[u8], line: Line) -> &[u8] {
+pub(crate) fn told(text: &[u8], line: Line) -> &[u8]
+    ensures there { line.from ≤ line.to → line.to ≤ length text.now → result.now ≡ slice_range text.now line.from line.to }
+    ensures crossed { line.to < line.from → result.now ≡ [] }
+    ensures past { length text.now < line.to → result.now ≡ [] }
+{
     part(text, line.from, line.to)
 }
 
@@ -203,7 +248,7 @@ fn number_at(told: &[u8], at: usize) -> Number
 }
 
 // Two numbers, a blank ahead of each, and nothing behind them.
-pub fn two_numbers(told: &[u8]) -> TwoNumbers {
+pub(crate) fn two_numbers(told: &[u8]) -> TwoNumbers {
     let size = told.len();
     let first = number_at(told, 1);
     let between = first.next;
@@ -300,7 +345,7 @@ fn no_bytes(good: bool) -> Bytes {
 
 // The bytes that a line tells, put at the start of a buffer. A line that tells none but says so by `-` is good, any other without a
 // byte is not.
-pub fn bytes_of(told: &[u8], out: &mut [u8; ROOM]) -> Bytes {
+pub(crate) fn bytes_of(told: &[u8], out: &mut [u8; ROOM]) -> Bytes {
     if same(told, b" -") {
         return no_bytes(true);
     }
@@ -325,7 +370,7 @@ pub fn bytes_of(told: &[u8], out: &mut [u8; ROOM]) -> Bytes {
 }
 
 // The next line, which has this key and tells bytes.
-pub fn bytes_due(text: &[u8], before: Line, key: &[u8], out: &mut [u8; ROOM]) -> Line {
+pub(crate) fn bytes_due(text: &[u8], before: Line, key: &[u8], out: &mut [u8; ROOM]) -> Line {
     let mut line = line_due(text, before, key);
     if line.good {
         let bytes = bytes_of(told(text, line), out);

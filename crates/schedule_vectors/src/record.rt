@@ -49,7 +49,7 @@ fn put_chan(record: &[u8], c: u8, cells: &mut [u8; STATE_CELLS]) {
 }
 
 // The state that a record tells, with these counts of tasks and channels.
-pub fn state_of(record: &[u8; ROOM], tasks: u8, channels: u8) -> State {
+pub(crate) fn state_of(record: &[u8; ROOM], tasks: u8, channels: u8) -> State {
     let mut words = [0u16; STATE_WORDS];
     let mut cells = [0u8; STATE_CELLS];
     cells[FAULT] = byte_at(record, 0);
@@ -79,7 +79,7 @@ fn row_of(record: &[u8], c: u8) -> [u16; CELLS as usize] {
 }
 
 // The values that a record tells.
-pub fn values_of(record: &[u8; ROOM]) -> [[u16; CELLS as usize]; CHANS as usize] {
+pub(crate) fn values_of(record: &[u8; ROOM]) -> [[u16; CELLS as usize]; CHANS as usize] {
     let mut values = [[0u16; CELLS as usize]; CHANS as usize];
     for c in 0..CHANS {
         values[c as usize] = row_of(record, c);

@@ -34,27 +34,27 @@ loop-behind-smaller c =
 pub loop-behind-preserved : goal.loop-behind-preserved
 loop-behind-preserved c =
     let loop = c.loop-behind in
-    let read_task_lem = c.read_task-r in
-    let z = tasks_step _ _ (task_limit - loop.n) loop.at loop.rows loop.n c.in-Done.is read_task_lem.ensures.0 in (
+    let read_task = c.read_task-r in
+    let z = tasks_step _ _ (task_limit - loop.n) loop.at loop.rows loop.n c.in-Done.is read_task.ensures.0 in (
       omega (arith, z.0),
       z.1 (task_limit - (loop.n + 1)) (omega (arith, z.0)) ∙ loop.invariant.1,
       λ bs a q e.
           let y = loop.invariant.2 bs a q e in
-          let w = task_lap _ _ (task_limit - loop.n) loop.at loop.rows z.0 c.in-Done.is read_task_lem.ensures.0 y.1 in
+          let w = task_lap _ _ (task_limit - loop.n) loop.at loop.rows z.0 c.in-Done.is read_task.ensures.0 y.1 in
           let f = w.left_is in
           let p : w.fewer ≡ task_limit - (loop.n + 1) = omega arith in
-          (w.rest, rw (← p) w.rest_is, tasks_next w _ (read_task_lem.ensures.1 w.one _ _ w.is) ∙ y.2, firsts_next w _ loop.n ∙ y.3),
+          (w.rest, rw (← p) w.rest_is, tasks_next w _ (read_task.ensures.1 w.one _ _ w.is) ∙ y.2, firsts_next w _ loop.n ∙ y.3),
     )
 
 pub returns-in-Nothing : goal.returns-in-Nothing
 returns-in-Nothing c =
     let loop = c.loop-behind in
-    let read_task_lem = c.read_task-r in (
-      tasks_end _ _ (task_limit - loop.n) loop.at loop.rows loop.n c.in-Nothing.is read_task_lem.ensures.0 ∙ loop.invariant.1,
+    let read_task = c.read_task-r in (
+      tasks_end _ _ (task_limit - loop.n) loop.at loop.rows loop.n c.in-Nothing.is read_task.ensures.0 ∙ loop.invariant.1,
       λ bs a q e.
           let y = loop.invariant.2 bs a q e in
-          let w = tasks_none y.0 _ _ _ _ _ (tasks_done _ _ (task_limit - loop.n) loop.at loop.rows (stop_by c.in-Nothing.is tt) read_task_lem.ensures.0 y.1) in
-          (read_task_lem.ensures.2 c.in-Nothing.is ∙ w.0 ∙ y.2, w.1 ∙ y.3),
+          let w = tasks_none y.0 _ _ _ _ _ (tasks_done _ _ (task_limit - loop.n) loop.at loop.rows (stop_by c.in-Nothing.is tt) read_task.ensures.0 y.1) in
+          (read_task.ensures.2 c.in-Nothing.is ∙ w.0 ∙ y.2, w.1 ∙ y.3),
     )
 
 pub returns-in-Refused : goal.returns-in-Refused
