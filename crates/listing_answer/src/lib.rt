@@ -50,7 +50,7 @@ pub fn behind(s: &[u8], n: usize) -> &[u8]
 
 // THE ANSWER
 
-// A place, or a number of pairs, in two bytes. Neither is over 48,000, so that the remainder changes nothing (specs/laws/Places).
+// A place, or a number of pairs, in two bytes. Neither is over 48,000, so that the remainder changes nothing (specs/Laws/Places).
 fn narrow(n: usize) -> u16
     ensures { result ≡ n % 65536 }
 {

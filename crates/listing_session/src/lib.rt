@@ -1,7 +1,7 @@
 // A listing, line by line: document 01, 'A listing, whole'. An input that is too long, a refused text or a bad schedule is a listing
 // of one line; any other has a line for each turn, each task, each
 // channel and the stamp. Whoever lists an input asks for line after line and writes it, or compares it, and keeps nothing else.
-// `listed-whole` in specs/laws/Whole.antt says that these lines, one behind the other, are the listing of document 01.
+// `listed_whole` in specs/Laws/Whole.antt says that these lines, one behind the other, are the listing of document 01.
 #![tactic(auto)]
 
 ghost use Rattle.std.specs.Prelude.{◌≡◌};

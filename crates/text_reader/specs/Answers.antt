@@ -24,8 +24,8 @@ counted size n (bad m place) = Counted.Refused m place
 abbrev pub self : ℕ → ℕ
 self n = n
 
--- A job's rows, channels and tasks. Crate `accepted` shows that `none` never comes (`reading-decided`) and that
--- every refusal is one of 1 to 10 (`reading-number`).
+-- A job's rows, channels and tasks. Crate text_laws shows that `none` never comes (`reading_decided`) and that
+-- every refusal is one of 1 to 10 (`reading_number`).
 unfoldable pub told_job : Part Job → Reading
 told_job (got j at rows) = Reading.Job rows (length j.capacities) (length j.tasks)
 told_job none = Reading.Refused 0 0

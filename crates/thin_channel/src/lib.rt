@@ -58,7 +58,7 @@ pub fn take(c: &mut Channel) -> Taken
 }
 
 // The same by value, through the lent forms: the record is lent out of a local. Whoever calls these makes no reference to a
-// record, and its proof needs no walk.
+// record.
 pub fn append_of(c: Channel, v: u16) -> Added
     ensures { result ≡ appended_to c v }
 {

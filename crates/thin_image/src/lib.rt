@@ -68,8 +68,7 @@ pub fn first_row<'a>(o: Opened<'a>, t: Task) -> FirstRowAnswer
     first_row_asked(o.image, o.held, t)
 }
 
-// A question of each kind, of an image that is opened once for all of them. Whoever calls this has no such struct in hand, and
-// its proof needs no walk.
+// A question of each kind, of an image that is opened once for all of them. Whoever calls this has no such struct in hand.
 pub fn answers_of(image: &[u8], n: Row, c: Chan, t: Task) -> Answers
     ensures { result ≡ answers_of image.now n c t }
 {
