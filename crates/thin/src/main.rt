@@ -6,7 +6,7 @@ use image_check::Checked;
 use image_put::fields_of;
 use meaning::{Chan, Row, Task};
 use std::io;
-use thin_channel::{Channel, Taken};
+use thin_channel::Channel;
 use thin_held::{CapacityAnswer, FirstRowAnswer, RowAnswer};
 
 // The image of `chan 1  task send 0 7 send 0 9 close 0 end  task range 0 end end`, behind three bytes that aren't read. Line by
@@ -98,22 +98,18 @@ fn say_channel(rt: &impl Print, c: Channel) -> io::Result<()> {
     println!(rt; " {closed} {} {} {} {}", c.len, v[0], v[1], v[15])
 }
 
-fn say_append(rt: &impl Print, c: Channel, v: u16) -> io::Result<Channel> {
-    let added = thin_channel::append_of(c, v);
-    let answer = if added.ok { "yes" } else { "no" };
+fn say_append(rt: &impl Print, c: &mut Channel, v: u16) -> io::Result<()> {
+    let answer = if c.append(v) { "yes" } else { "no" };
     print!(rt; "append {v} {answer}")?;
-    say_channel(rt, added.channel)?;
-    Ok(added.channel)
+    say_channel(rt, *c)
 }
 
-fn say_take(rt: &impl Print, c: Channel) -> io::Result<Channel> {
-    let took = thin_channel::take_of(c);
-    match took.taken {
-        Taken::Value(v) => print!(rt; "take {v}")?,
-        Taken::No => print!(rt; "take no")?,
+fn say_take(rt: &impl Print, c: &mut Channel) -> io::Result<()> {
+    match c.take() {
+        Some(v) => print!(rt; "take {v}")?,
+        None => print!(rt; "take no")?,
     }
-    say_channel(rt, took.channel)?;
-    Ok(took.channel)
+    say_channel(rt, *c)
 }
 
 fn channel(capacity: u8, closed: bool, len: u8, values: [u16; 16]) -> Channel {
@@ -128,28 +124,29 @@ fn channel(capacity: u8, closed: bool, len: u8, values: [u16; 16]) -> Channel {
 fn say_channels(rt: &impl Print) -> io::Result<()> {
     // the listing's channel, of capacity 1: no value yet, then room for one
     let empty = [0u16; 16];
-    let mut c = channel(1, false, 0, empty);
-    c = say_take(rt, c)?;
-    c = say_append(rt, c, 7)?;
-    c = say_append(rt, c, 9)?;
-    c = say_take(rt, c)?;
-    say_take(rt, c)?;
+    let mut one = channel(1, false, 0, empty);
+    say_take(rt, &mut one)?;
+    say_append(rt, &mut one, 7)?;
+    say_append(rt, &mut one, 9)?;
+    say_take(rt, &mut one)?;
+    say_take(rt, &mut one)?;
     // closed is not asked
-    c = say_append(rt, channel(1, true, 0, empty), 9)?;
-    say_take(rt, c)?;
+    let mut closed = channel(1, true, 0, empty);
+    say_append(rt, &mut closed, 9)?;
+    say_take(rt, &mut closed)?;
     // capacity 16, full
-    let full: [u16; 16] = [1, 2, 3, 4, 5, 6, 7, 8, 9, 10, 11, 12, 13, 14, 15, 16];
-    c = say_append(rt, channel(16, false, 16, full), 17)?;
-    c = say_take(rt, c)?;
-    say_append(rt, c, 17)?;
+    let values: [u16; 16] = [1, 2, 3, 4, 5, 6, 7, 8, 9, 10, 11, 12, 13, 14, 15, 16];
+    let mut full = channel(16, false, 16, values);
+    say_append(rt, &mut full, 17)?;
+    say_take(rt, &mut full)?;
+    say_append(rt, &mut full, 17)?;
     // capacity 0
-    say_append(rt, channel(0, false, 0, empty), 7)?;
+    say_append(rt, &mut channel(0, false, 0, empty), 7)?;
     // a capacity over 16, and a length over its capacity
-    say_append(rt, channel(17, false, 2, full), 7)?;
-    say_take(rt, channel(17, false, 2, full))?;
-    say_append(rt, channel(1, false, 2, full), 7)?;
-    say_take(rt, channel(1, false, 2, full))?;
-    Ok(())
+    say_append(rt, &mut channel(17, false, 2, values), 7)?;
+    say_take(rt, &mut channel(17, false, 2, values))?;
+    say_append(rt, &mut channel(1, false, 2, values), 7)?;
+    say_take(rt, &mut channel(1, false, 2, values))
 }
 
 fn main(rt: HostRuntime) -> io::Result<()> {

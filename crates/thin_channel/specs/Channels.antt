@@ -1,9 +1,9 @@
 -- Document 01, 'Shape of the store': one channel record, lent for append and take. "Both answer no, nothing changed, where
 -- the .. room or value isn't there, a length is over its capacity or a capacity is over 16."
-use Rattle.std.specs.Prelude.{Bool, true, false, cond, ◌&&◌, List, ℕ, ◌+◌, ◌-◌, leb, ltb, get_or, set, take}
+use Rattle.std.specs.Prelude.{Bool, cond, ◌&&◌, List, ℕ, ◌+◌, ◌-◌, leb, ltb, get_or, set, take, Option, Some, None}
 use Rattle.meaning.specs.Numbers.{capacity_limit}
 use Rattle.machine_records.specs.Values.{shifted}
-use Rattle.thin_channel.specs.Kinds.{Channel, Added, Value, No, Took}
+use Rattle.thin_channel.specs.Kinds.{Channel}
 
 -- The values that a channel holds, oldest first.
 abbrev pub contents : Channel → List ℕ
@@ -27,8 +27,13 @@ longer c v = record { capacity = c.capacity; closed = c.closed; len = c.len + 1;
 abbrev pub shorter : Channel → Channel
 shorter c = record { capacity = c.capacity; closed = c.closed; len = c.len - 1; values = shifted c.values c.len }
 
-unfoldable pub appended_to : Channel → ℕ → Added
-appended_to c v = cond (has_room c) (record { ok = true; channel = longer c v }) (record { ok = false; channel = c })
+-- The channel behind an append, and behind a take: as it was, where the answer is no.
+abbrev pub appended_to : Channel → ℕ → Channel
+appended_to c v = cond (has_room c) (longer c v) c
 
-unfoldable pub took_from : Channel → Took
-took_from c = cond (has_value c) (record { taken = Value (oldest c); channel = shorter c }) (record { taken = No; channel = c })
+abbrev pub shortened : Channel → Channel
+shortened c = cond (has_value c) (shorter c) c
+
+-- What a take hands out.
+abbrev pub taken_from : Channel → Option ℕ
+taken_from c = cond (has_value c) (Some (oldest c)) None

@@ -1,14 +1,11 @@
-// One channel record, lent for append and take and updated where it is. What is done to it is decided by value, in `value`;
-// the two lent forms load the record, ask, and store the record that is answered, so that no branch stands in them.
+// One channel record, lent for append and take and updated where it is.
 #![tactic(auto)]
 
 ghost use Rattle.std.specs.Prelude.{◌≡◌};
-ghost use Rattle.thin_channel.specs.Channels.{appended_to, took_from};
+ghost use Rattle.thin_channel.specs.Channels.{has_room, has_value, appended_to, taken_from, shortened};
 
-mod value;
-
+use machine_buffer::shift;
 use meaning::sizes::CELLS;
-use value::{add_to, take_from};
 
 // The values stand oldest first, in the first `len` cells.
 #[derive(Clone, Copy)]
@@ -19,58 +16,45 @@ pub struct Channel {
     pub values: [u16; CELLS as usize],
 }
 
-// Whether the value was appended, and the channel afterwards: as it was, where it was not.
-#[derive(Clone, Copy)]
-pub struct Added {
-    pub ok: bool,
-    pub channel: Channel,
-}
+impl Channel {
+    // A channel whose capacity or length can't be has no room.
+    fn has_room(&self) -> bool
+        ensures { result ≡ has_room self.now }
+    {
+        self.capacity <= CELLS && self.len < self.capacity
+    }
 
-#[derive(Clone, Copy)]
-pub enum Taken {
-    Value(u16),
-    No,
-}
+    // Nor has it a value.
+    fn has_value(&self) -> bool
+        ensures { result ≡ has_value self.now }
+    {
+        self.capacity <= CELLS && self.len <= self.capacity && 0 < self.len
+    }
 
-// The value taken, and the channel afterwards: as it was, where none was taken.
-#[derive(Clone, Copy)]
-pub struct Took {
-    pub taken: Taken,
-    pub channel: Channel,
-}
+    // Appends v behind the youngest value and answers true; where there is no room, changes nothing and answers false.
+    pub fn append(&mut self, v: u16) -> bool
+        ensures answer { result ≡ has_room self.old }
+        ensures after { self.new ≡ appended_to self.old v }
+    {
+        if !self.has_room() {
+            return false;
+        }
+        self.values[self.len as usize] = v;
+        self.len += 1;
+        true
+    }
 
-// Appends v behind the youngest value and answers true; where there is no room, changes nothing and answers false.
-pub fn append(c: &mut Channel, v: u16) -> bool
-    ensures { (result ≡ (appended_to c.old v).ok) × (c.new ≡ (appended_to c.old v).channel) }
-{
-    let added = add_to(*c, v);
-    *c = added.channel;
-    added.ok
-}
-
-// Takes the oldest value; where there is none, changes nothing and answers no.
-pub fn take(c: &mut Channel) -> Taken
-    ensures { (result ≡ (took_from c.old).taken) × (c.new ≡ (took_from c.old).channel) }
-{
-    let took = take_from(*c);
-    *c = took.channel;
-    took.taken
-}
-
-// The same by value, through the lent forms: the record is lent out of a local. Whoever calls these makes no reference to a
-// record.
-pub fn append_of(c: Channel, v: u16) -> Added
-    ensures { result ≡ appended_to c v }
-{
-    let mut x = c;
-    let ok = append(&mut x, v);
-    Added { ok, channel: x }
-}
-
-pub fn take_of(c: Channel) -> Took
-    ensures { result ≡ took_from c }
-{
-    let mut x = c;
-    let taken = take(&mut x);
-    Took { taken, channel: x }
+    // Takes the oldest value; where there is none, changes nothing and answers none.
+    pub fn take(&mut self) -> Option<u16>
+        ensures answer { result ≡ taken_from self.old }
+        ensures after { self.new ≡ shortened self.old }
+    {
+        if !self.has_value() {
+            return None;
+        }
+        let oldest = self.values[0];
+        shift(&mut self.values, self.len as usize);
+        self.len -= 1;
+        Some(oldest)
+    }
 }

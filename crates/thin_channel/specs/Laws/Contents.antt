@@ -1,28 +1,25 @@
 -- What append and take come to, in the values that a channel holds, oldest first.
-use Rattle.std.specs.Prelude.{◌≡◌, true, false, [], ◌∷◌, ◌++◌, ℕ, ◌-◌, ◌≤◌, ◌<◌, length, drop, replicate}
+use Rattle.std.specs.Prelude.{◌≡◌, true, false, [], ◌∷◌, ◌++◌, ℕ, ◌-◌, ◌≤◌, ◌<◌, length, drop, replicate, Some, None}
 use Rattle.std.proofs.Common.{ap, ◌∙◌, add-one, arith, leb-true, ltb-true, length-take, length-drop, take-suc-set, drop-cons, get_or-take}
 use Rattle.meaning.specs.Numbers.{capacity_limit}
 use Rattle.meaning.specs.Laws.Tests.{both}
 use Rattle.machine_records.specs.Laws.Cells.{take_over}
-use Rattle.thin_channel.specs.Kinds.{Channel, Value, No}
-use Rattle.thin_channel.specs.Channels.{contents, has_room, has_value, oldest, shorter, appended_to, took_from}
+use Rattle.thin_channel.specs.Kinds.{Channel}
+use Rattle.thin_channel.specs.Channels.{contents, has_room, has_value, oldest, shorter, appended_to, shortened, taken_from}
 
 -- Append puts v behind the youngest value, where there is room.
-pub append_adds : (c : Channel) (v : ℕ) → length c.values ≡ capacity_limit → has_room c ≡ true → ((appended_to c v).ok ≡ true) × (contents (appended_to c v).channel ≡ contents c ++ (v ∷ []))
-unfolding appended_to
+pub append_adds : (c : Channel) (v : ℕ) → length c.values ≡ capacity_limit → has_room c ≡ true → contents (appended_to c v) ≡ contents c ++ (v ∷ [])
 append_adds c v cells room =
     let tests = both _ _ room in
     let fits : c.capacity ≤ capacity_limit = leb-true _ _ tests.0 in
     let below : c.len < c.capacity = ltb-true _ _ tests.1 in
-    (rw room, rw (room, add-one) (take-suc-set c.values c.len v (omega arith)))
+    rw (room, add-one) (take-suc-set c.values c.len v (omega arith))
 
-pub append_refuses : (c : Channel) (v : ℕ) → has_room c ≡ false → ((appended_to c v).ok ≡ false) × ((appended_to c v).channel ≡ c)
-unfolding appended_to
-append_refuses c v full = (rw full, rw full)
+pub append_refuses : (c : Channel) (v : ℕ) → has_room c ≡ false → appended_to c v ≡ c
+append_refuses c v full = rw full
 
 -- Take hands out the oldest value and leaves the others, in their order, where there is a value.
-pub take_takes : (c : Channel) → length c.values ≡ capacity_limit → has_value c ≡ true → ((took_from c).taken ≡ Value (oldest c)) × (contents c ≡ oldest c ∷ contents (took_from c).channel)
-unfolding took_from
+pub take_takes : (c : Channel) → length c.values ≡ capacity_limit → has_value c ≡ true → (taken_from c ≡ Some (oldest c)) × (contents c ≡ oldest c ∷ contents (shortened c))
 take_takes c cells value =
     let tests = both _ _ value in
     let more = both _ _ tests.1 in
@@ -34,6 +31,5 @@ take_takes c cells value =
     let rest : contents (shorter c) ≡ drop 1 (contents c) = rw (← left) (take_over (drop 1 (contents c)) (replicate (length c.values) 0)) in
     (rw value, rw (value, rest) (drop-cons (contents c) 0 0 (omega arith) ∙ ap (λ x. x ∷ drop 1 (contents c)) (get_or-take c.len c.values 0 0 (omega arith))))
 
-pub take_refuses : (c : Channel) → has_value c ≡ false → ((took_from c).taken ≡ No) × ((took_from c).channel ≡ c)
-unfolding took_from
+pub take_refuses : (c : Channel) → has_value c ≡ false → (taken_from c ≡ None) × (shortened c ≡ c)
 take_refuses c none = (rw none, rw none)
