@@ -1,9 +1,8 @@
 // What the listing program is given: a job text up to a line `run`, then a schedule. Both are read in place.
 #![tactic(auto)]
 
-ghost use Rattle.std.specs.Prelude.{◌≡◌, ◌&&◌, ◌+◌, ◌≤◌, ◌<◌, min, length, drop};
-ghost use Rattle.text_words.specs.Words.{run, same_word};
-ghost use Rattle.listing_input.specs.Input.{in_line, run_word, is_run, split_of, is_byte, ended, schedule_of, pair_at};
+ghost use Rattle.std.specs.Prelude.{◌≡◌, ◌&&◌};
+ghost use Rattle.listing_input.specs.Input.{first_line, is_run, split_of, is_byte, ended, schedule_of, pair_at};
 
 use text_words::{NO_WORD, NUMBER, Word, word_at};
 
@@ -14,13 +13,6 @@ pub struct Split {
     pub rest: usize,
 }
 
-// What a schedule says: nothing of use, or this many pairs.
-#[derive(Clone, Copy)]
-pub enum Schedule {
-    Bad,
-    Pairs(usize),
-}
-
 // A pair of a schedule, and the place behind it.
 #[derive(Clone, Copy)]
 pub struct Pair {
@@ -29,101 +21,59 @@ pub struct Pair {
     pub next: usize,
 }
 
-// The end of the line that holds `at`: its newline, or the input's end.
-fn line_end(input: &[u8], at: usize) -> usize
-    ensures { result ≡ at + run in_line (drop at input.now) }
+// The line that begins a text: up to its newline, or the text's end.
+fn first_line(text: &[u8]) -> &[u8]
+    ensures { result.now ≡ first_line text.now }
 {
-    let mut i = at;
-    while i < input.len() {
-        if input[i] == b'\n' {
-            return i;
-        }
-        i = i + 1;
-    }
-    i
+    let end = text.iter().position(|&b| b == b'\n').unwrap_or(text.len());
+    &text[..end]
 }
 
-fn is_run_word(line: &[u8]) -> bool
-    ensures { result ≡ same_word line.now run_word }
+// Whether that line is exactly `run`, where a line begins there.
+fn begins_run(text: &[u8], begins: bool) -> bool
+    ensures { result ≡ (begins && is_run text.now) }
 {
-    if line.len() != 3 {
-        return false;
-    }
-    if line[0] != b'r' {
-        return false;
-    }
-    if line[1] != b'u' {
-        return false;
-    }
-    line[2] == b'n'
+    begins && first_line(text) == b"run".as_slice()
 }
 
-// Whether the line that begins at `at` is exactly `run`.
-fn is_run(input: &[u8], at: usize) -> bool
-    requires { at < length input.now }
-    ensures { result ≡ is_run (drop at input.now) }
-{
-    let end = line_end(input, at);
-    is_run_word(&input[at..end])
-}
-
-fn begins_run(input: &[u8], at: usize, begins: bool) -> bool
-    requires { at < length input.now }
-    ensures { result ≡ (begins && is_run (drop at input.now)) }
-{
-    if begins { is_run(input, at) } else { false }
-}
-
-// The place behind a line `run` and its newline, which may lack at the input's end.
-fn behind_run(at: usize, len: usize) -> usize
-    requires { at ≤ len }
-    ensures { result ≡ min len (at + 4) }
-{
-    if len - at < 4 { len } else { at + 4 }
-}
-
-// `begins` says that a line begins at place i.
+// `begins` says that a line begins at place i. The schedule stands behind the line `run` and its newline, which may lack at the input's
+// end.
 pub fn split_at_run(input: &[u8]) -> Split
     ensures { result ≡ split_of input.now }
 {
     let mut begins = true;
-    let mut i = 0;
-    while i < input.len() {
-        if begins_run(input, i, begins) {
+    for i in 0..input.len() {
+        if begins_run(&input[i..], begins) {
             return Split {
                 text: i,
-                rest: behind_run(i, input.len()),
+                rest: input.len().min(i + 4),
             };
         }
         begins = input[i] == b'\n';
-        i = i + 1;
     }
-    Split { text: i, rest: i }
+    Split {
+        text: input.len(),
+        rest: input.len(),
+    }
 }
 
 // A number from 0 to 255.
 fn is_byte(w: Word) -> bool
     ensures { result ≡ is_byte w }
 {
-    if w.kind == NUMBER {
-        w.value <= 255
-    } else {
-        false
-    }
+    w.kind == NUMBER && w.value <= 255
 }
 
-// The schedule where it ends behind n numbers.
-fn ended_at(n: usize) -> Schedule
+// How many pairs a schedule of n numbers is: none where one number is left over.
+fn ended_at(n: usize) -> Option<usize>
     ensures { result ≡ ended n }
 {
-    if n % 2 == 0 {
-        Schedule::Pairs(n / 2)
-    } else {
-        Schedule::Bad
-    }
+    if n % 2 == 0 { Some(n / 2) } else { None }
 }
 
-pub fn read_schedule(rest: &[u8]) -> Schedule
+// How many pairs a schedule has; none where it is bad or odd.
+// Kept, point 3: the walk goes from word to word, so no counted range has its places.
+pub fn read_schedule(rest: &[u8]) -> Option<usize>
     ensures { result ≡ schedule_of rest.now }
 {
     let mut at = 0;
@@ -133,12 +83,11 @@ pub fn read_schedule(rest: &[u8]) -> Schedule
         if w.kind == NO_WORD {
             return ended_at(n);
         }
-        if is_byte(w) {
-            at = w.next;
-            n = n + 1;
-        } else {
-            return Schedule::Bad;
+        if !is_byte(w) {
+            return None;
         }
+        at = w.next;
+        n += 1;
     }
 }
 

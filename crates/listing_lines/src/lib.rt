@@ -1,91 +1,92 @@
 // What the listing program prints, document 01, 'A listing, whole': one line for each call, built up byte by byte.
 #![tactic(auto)]
 
-ghost use Rattle.std.specs.Prelude.{◌≡◌, ◌++◌, ◌∷◌, [], ◌+◌, ◌*◌, ◌≤◌, ◌<◌, min, length};
+ghost use Rattle.std.specs.Prelude.{◌≡◌, ◌++◌, ◌∷◌, [], ◌+◌, ◌*◌, ◌≤◌, ◌<◌, length};
 ghost use Rattle.meaning.specs.Events.{numbers};
-ghost use Rattle.meaning.specs.Numbers.{capacity_limit};
-ghost use Rattle.listing_lines.specs.Lines.{line_size, Blank, Adds, Shows, decimal_of, spaced, line_of, flag, status_number, refused_line, turn_line, task_line, chan_line, stamp_line, bad_schedule_line, too_long_line};
+ghost use Rattle.listing_lines.specs.Lines.{status_number, line_size, text_of, Blank, Adds, Shows, decimal_of, spaced, line_of, refused_line, turn_line, task_line, chan_line, stamp_line, bad_schedule_line, too_long_line};
 
+use arrayvec::ArrayVec;
 use events::event_numbers;
 use machine_records::{ChanState, TaskState};
 use meaning::sizes::CELLS;
 use meaning::{Chan, Event, Status, Task};
 
-// A line: the first `len` of its bytes, newline included, with zeros behind. The longest is a channel's: a word of four bytes,
-// nineteen numbers of up to five digits, each behind a blank, and the newline.
-#[derive(Clone, Copy)]
+// The longest line is a channel's: a word of four bytes, nineteen numbers of up to five digits, each behind a blank, and the newline.
+pub const LINE_SIZE: usize = 128;
+
+// The bytes of a line, newline included.
+#[derive(Drop)]
 pub struct Line {
-    pub bytes: [u8; 128],
-    pub len: u8,
+    bytes: ArrayVec<u8, LINE_SIZE>,
 }
 
 // BUILDING
 
-fn blank_line() -> Line
-    ensures { Blank result }
-{
-    Line {
-        bytes: [0; 128],
-        len: 0,
+impl Line {
+    fn blank() -> Line
+        ensures { Blank result }
+    {
+        Line {
+            bytes: ArrayVec::new(),
+        }
     }
-}
 
-fn with_byte(mut line: Line, b: u8) -> Line
-    requires { line.len < line_size }
-    ensures { Adds line (b ∷ []) result }
-{
-    let i = line.len as usize;
-    line.bytes[i] = b;
-    line.len = line.len + 1;
-    line
-}
-
-fn with_word(line: Line, word: &[u8]) -> Line
-    requires { line.len + length word.now ≤ line_size }
-    ensures { Adds line word.now result }
-{
-    let mut built = line;
-    let mut i = 0;
-    while i < word.len() {
-        built = with_byte(built, word[i]);
-        i = i + 1;
+    // What the line shows.
+    pub fn text(&self) -> &[u8]
+        ensures { result.now ≡ text_of self.now }
+    {
+        self.bytes.as_slice()
     }
-    built
-}
 
-// The digits of a number, the first first: those of a tenth of it, then the last.
-fn with_number(line: Line, n: u16) -> Line
-    requires { line.len + 5 ≤ line_size }
-    ensures { (Adds line (decimal_of n) result) × (result.len ≤ line.len + 5) }
-{
-    if n < 10 {
-        return with_byte(line, b'0' + n as u8);
+    fn byte(&mut self, b: u8)
+        requires { length (text_of self.old) < line_size }
+        ensures { Adds self.old (b ∷ []) self.new }
+    {
+        self.bytes.push(b);
     }
-    let tens = with_number(line, n / 10);
-    with_byte(tens, b'0' + (n % 10) as u8)
-}
 
-// Numbers, each behind a blank.
-fn with_numbers(line: Line, ns: &[u16]) -> Line
-    requires { line.len + 6 * length ns.now ≤ line_size }
-    ensures { (Adds line (spaced ns.now) result) × (result.len ≤ line.len + 6 * length ns.now) }
-{
-    let mut built = line;
-    let mut i = 0;
-    while i < ns.len() {
-        let parted = with_byte(built, b' ');
-        built = with_number(parted, ns[i]);
-        i = i + 1;
+    fn word(&mut self, word: &[u8])
+        requires { length (text_of self.old) + length word.now ≤ line_size }
+        ensures { Adds self.old word.now self.new }
+    {
+        for &b in word {
+            self.byte(b);
+        }
     }
-    built
-}
 
-// The last numbers of a line, and its newline.
-fn ended(line: Line, ns: &[u16]) -> Line
-    requires { line.len + 6 * length ns.now < line_size }
-    ensures { (result.len ≤ line_size) × Adds line (spaced ns.now ++ (10 ∷ [])) result }
-{
-    with_byte(with_numbers(line, ns), b'\n')
+    // The digits of a number, the first first: those of a tenth of it, then the last.
+    fn number(&mut self, n: u16)
+        requires { length (text_of self.old) + 5 ≤ line_size }
+        ensures digits { Adds self.old (decimal_of n) self.new }
+        ensures most { length (text_of self.new) ≤ length (text_of self.old) + 5 }
+    {
+        if n < 10 {
+            return self.byte(b'0' + n as u8);
+        }
+        self.number(n / 10);
+        self.byte(b'0' + (n % 10) as u8);
+    }
+
+    // Numbers, each behind a blank.
+    fn numbers(&mut self, ns: &[u16])
+        requires { length (text_of self.old) + 6 * length ns.now ≤ line_size }
+        ensures shown { Adds self.old (spaced ns.now) self.new }
+        ensures most { length (text_of self.new) ≤ length (text_of self.old) + 6 * length ns.now }
+    {
+        for &n in ns {
+            self.byte(b' ');
+            self.number(n);
+        }
+    }
+
+    // The last numbers of a line, and its newline.
+    fn end(&mut self, ns: &[u16])
+        requires { length (text_of self.old) + 6 * length ns.now < line_size }
+        ensures { Adds self.old (spaced ns.now ++ (10 ∷ [])) self.new }
+    {
+        self.numbers(ns);
+        self.byte(b'\n');
+    }
 }
 
 // A word and its numbers.
@@ -93,15 +94,35 @@ fn named_line(word: &[u8], ns: &[u16]) -> Line
     requires { length word.now + 6 * length ns.now < line_size }
     ensures { Shows result (line_of word.now ns.now) }
 {
-    ended(with_word(blank_line(), word), ns)
+    let mut line = Line::blank();
+    line.word(word);
+    line.end(ns);
+    line
 }
 
-// NUMBERS
+// LINES
 
-fn flag_of(b: bool) -> u16
-    ensures { result ≡ flag b }
+pub fn refused_line(number: u8, place: u16) -> Line
+    ensures { Shows result (refused_line number place) }
 {
-    if b { 1 } else { 0 }
+    named_line(b"refused", &[u16::from(number), place])
+}
+
+// Pair number, task, event, channel, value, partner.
+pub fn turn_line(pair: u16, task: u8, event: Event) -> Line
+    ensures { Shows result (turn_line pair task (numbers event)) }
+{
+    let e = event_numbers(event);
+    let mut line = Line::blank();
+    line.number(pair);
+    line.end(&[
+        u16::from(task),
+        u16::from(e.number),
+        u16::from(e.channel),
+        e.value,
+        u16::from(e.partner),
+    ]);
+    line
 }
 
 fn status_number(s: Status) -> u16
@@ -114,80 +135,52 @@ fn status_number(s: Status) -> u16
     }
 }
 
-// LINES
-
-pub fn refused_line(number: u8, place: u16) -> Line
-    ensures { Shows result (refused_line number place) }
-{
-    let ns = [number as u16, place];
-    named_line(b"refused", &ns)
-}
-
-// Pair number, task, event, channel, value, partner.
-pub fn turn_line(pair: u16, task: u8, event: Event) -> Line
-    ensures { Shows result (turn_line pair task (numbers event)) }
-{
-    let e = event_numbers(event);
-    let ns = [
-        task as u16,
-        e.number as u16,
-        e.channel as u16,
-        e.value,
-        e.partner as u16,
-    ];
-    ended(with_number(blank_line(), pair), &ns)
-}
-
 // Task, status, register, ok, row.
 pub fn task_line(task: Task, x: TaskState) -> Line
     ensures { Shows result (task_line task x) }
 {
-    let status = x.status;
-    let ns = [
-        task.0 as u16,
-        status_number(status),
-        x.register,
-        flag_of(x.ok),
-        x.row.0,
-    ];
-    named_line(b"task", &ns)
+    named_line(
+        b"task",
+        &[
+            u16::from(task.0),
+            status_number(x.status),
+            x.register,
+            u16::from(x.ok),
+            x.row.0,
+        ],
+    )
 }
 
 // Channel, closed, length, values oldest first. A length over what a channel can hold prints all that it can hold.
 pub fn chan_line(chan: Chan, x: ChanState, values: [u16; CELLS as usize]) -> Line
     ensures { Shows result (chan_line chan x values) }
 {
-    let ns = [chan.0 as u16, flag_of(x.closed), x.len as u16];
-    let head = with_numbers(with_word(blank_line(), b"chan"), &ns);
-    let n = values_shown(x.len);
-    ended(head, &values[..n])
-}
-
-fn values_shown(len: u8) -> usize
-    ensures { result ≡ min capacity_limit len }
-{
-    if len < CELLS {
-        len as usize
-    } else {
-        CELLS as usize
-    }
+    let mut line = Line::blank();
+    line.word(b"chan");
+    line.numbers(&[u16::from(chan.0), u16::from(x.closed), u16::from(x.len)]);
+    let shown = CELLS.min(x.len) as usize;
+    line.end(&values[..shown]);
+    line
 }
 
 pub fn stamp_line(stamp: u16, fault: u8) -> Line
     ensures { Shows result (stamp_line stamp fault) }
 {
-    let ns = [stamp, fault as u16];
-    named_line(b"stamp", &ns)
+    named_line(b"stamp", &[stamp, u16::from(fault)])
 }
 
 pub fn bad_schedule_line() -> Line
     ensures { Shows result bad_schedule_line }
 {
-    with_word(blank_line(), b"bad schedule\n")
+    let mut line = Line::blank();
+    line.word(b"bad schedule\n");
+    line
 }
 
 pub fn too_long_line() -> Line
     ensures { Shows result too_long_line }
 {
-    with_word(blank_line(), b"input too long\n")
+    let mut line = Line::blank();
+    line.word(b"input too long\n");
+    line
 }

@@ -35,11 +35,11 @@ loop-w-preserved c =
     let a = c.args in
     let l = c.loop-w in
     let q = word_ends a.rest.now l.at c.word_at-w.ensures c.if-w-eq-NO_WORD.false in
-    (omega arith, (q.1, judged_more a.rest.now l.at c.word_at-w.ensures l.n (omega arith) c.if-w-eq-NO_WORD.false (sym c.is_byte.ensures ∙ c.if-is_byte.true) ∙ l.invariant.1.1))
+    (omega arith, (q.1, judged_more a.rest.now l.at c.word_at-w.ensures l.n (omega arith) c.if-w-eq-NO_WORD.false (sym c.is_byte.ensures ∙ c.if-not-is_byte.false) ∙ l.invariant.1.1))
 
-pub returns-else-is_byte : goal.returns-else-is_byte
-returns-else-is_byte c =
+pub returns-then-not-is_byte : goal.returns-then-not-is_byte
+returns-then-not-is_byte c =
     let a = c.args in
     let l = c.loop-w in
     let q = word_ends a.rest.now l.at c.word_at-w.ensures c.if-w-eq-NO_WORD.false in
-    judged_bad a.rest.now l.at c.word_at-w.ensures l.n (omega arith) c.if-w-eq-NO_WORD.false (sym c.is_byte.ensures ∙ c.if-is_byte.false) ∙ l.invariant.1.1
+    judged_bad a.rest.now l.at c.word_at-w.ensures l.n (omega arith) c.if-w-eq-NO_WORD.false (sym c.is_byte.ensures ∙ c.if-not-is_byte.true) ∙ l.invariant.1.1

@@ -1,33 +1,33 @@
-use mathlib.Core.Path.{◌≡◌, sym, ◌∙◌}
-use Prim.Native.Nat.{min, ◌+◌}
-use native.Mathlib.Omega.{arith}
-use borrow.Author.Rules.{rules}
-use lib.ListN.{length}
-use Rattle.listing_input.specs.Input.{split_of}
+use Rattle.std.proofs.Common.{◌≡◌, ℕ, true, sym, ◌∙◌, min, ◌+◌, ◌-◌, arith, length}
+use Rattle.std.proofs.Math.Seq.{take-length}
+use Rattle.std.proofs.Common.{length-drop, take, drop, List}
+use Rattle.listing_input.specs.Input.{text_length}
 use Rattle.listing_input.specs.Laws.Input.{text_more, text_stop, text_end}
 use Rattle.listing_input.proofs.split_at_run.Goals as goal
 
-pub loop-i-init : goal.loop-i-init
-loop-i-init c = (omega arith, omega arith)
+-- A slice from a place on is all that stands behind it.
+to_the_end : (l : List ℕ) (i : ℕ) → take (length l - i) (drop i l) ≡ drop i l
+to_the_end l i = rw (← length-drop i l) (take-length (drop i l))
 
 pub returns-then-begins_run : goal.returns-then-begins_run
-unfolding split_of
 returns-then-begins_run c =
     let a = c.args in
     let l = c.loop-i in
-    rw (c.behind_run.ensures, ← l.invariant.1, ← text_stop a.input.now l.begins l.i c.loop-i-test.true (sym c.begins_run.ensures ∙ c.if-begins_run.true))
+    let e = text_stop a.input.now l.begins l.i c.loop-i-test.true (rw (to_the_end a.input.now l.i) at (sym c.begins_run.ensures ∙ c.if-begins_run.true)) ∙ l.invariant in
+    rw (c.min.ensures, ← e)
 
 pub loop-i-preserved : goal.loop-i-preserved
 loop-i-preserved c =
     let a = c.args in
     let l = c.loop-i in
-    (search rules, text_more a.input.now l.begins l.i c.loop-i-test.true (sym c.begins_run.ensures ∙ c.if-begins_run.false) ∙ l.invariant.1)
+    text_more a.input.now l.begins l.i c.loop-i-test.true (rw (to_the_end a.input.now l.i) at (sym c.begins_run.ensures ∙ c.if-begins_run.false)) ∙ l.invariant
 
 pub returns : goal.returns
-unfolding split_of
 returns c =
     let a = c.args in
     let l = c.loop-i in
-    let e = text_end a.input.now l.begins l.i c.loop-i-test.false ∙ l.invariant.1 in
-    let q : min (length a.input.now) (l.i + 4) ≡ l.i = omega arith in
-    rw (← e, q)
+    let e = text_end a.input.now l.begins l.i c.loop-i-test.false ∙ l.invariant in
+    let n : ℕ = length a.input.now in
+    let z : text_length true a.input.now ≡ n = omega arith in
+    let q : min n (n + 4) ≡ n = omega arith in
+    rw (z, q)

@@ -1,6 +1,6 @@
 -- What the program relies on: where the two parts of the input lie, and that walking a schedule pair by pair gives exactly the
 -- pairs that were counted. The steps of the definitions come first; the proofs of the loops cite them. Assumes nothing.
-use Rattle.std.specs.Prelude.{◌≡◌, Bool, cond, ◌&&◌, eqb, leb, get_or, drop}
+use Rattle.std.specs.Prelude.{◌≡◌, Bool, cond, ◌&&◌, eqb, leb, get_or, drop, Some, None}
 use Rattle.std.proofs.Math.Path.{refl}
 use Rattle.std.proofs.Common.{sym, ap, ◌∙◌, add-one, drop_of_length-le, drop-cons}
 use Rattle.std.proofs.Math.Bool.{true, false}
@@ -10,7 +10,7 @@ use Prim.Native.Nat.{ℕ, zero, suc, ◌+◌, ◌-◌, ◌/◌, ◌%◌, ◌≤�
 use native.Mathlib.Omega.{arith}
 use borrow.Author.Tests.{eq-eqb, ne_eqb, eqb-true, leb-true}
 use Rattle.std.proofs.Math.ListN.{length}
-use Rattle.listing_input.specs.Kinds.{Word, Bad, Pairs}
+use Rattle.listing_input.specs.Kinds.{Word}
 use Rattle.text_words.specs.Words.{same_word, word_at, no_kind, number_kind}
 use Rattle.text_words.specs.Laws.Words.{same_eq, word_place}
 use Rattle.listing_input.specs.Input.{run_word, is_run, text_length, split_of, is_byte, words_from, words_of, ended, judged, schedule_of, pair_at, pairs_in}
@@ -118,7 +118,7 @@ module _ (text : List ℕ) (at : ℕ) {w : Word} (read : w ≡ word_at text at) 
     unfolding judged
     judged_end k e = rw (words_end k e)
 
-    judged_step : n < length text → (w.kind ≡ no_kind → ⊥) → judged n (words_from (length text - n) text at) ≡ cond (is_byte w) (judged (n + 1) (words_from (length text - (n + 1)) text w.next)) Bad
+    judged_step : n < length text → (w.kind ≡ no_kind → ⊥) → judged n (words_from (length text - n) text at) ≡ cond (is_byte w) (judged (n + 1) (words_from (length text - (n + 1)) text w.next)) None
     unfolding judged
     judged_step h e =
         let q : length text - n ≡ suc (length text - (n + 1)) = omega arith in
@@ -127,7 +127,7 @@ module _ (text : List ℕ) (at : ℕ) {w : Word} (read : w ≡ word_at text at) 
     pub judged_more : n < length text → (w.kind ≡ no_kind → ⊥) → is_byte w ≡ true → judged (n + 1) (words_from (length text - (n + 1)) text w.next) ≡ judged n (words_from (length text - n) text at)
     judged_more h e t = sym (judged_step h e ∙ rw t)
 
-    pub judged_bad : n < length text → (w.kind ≡ no_kind → ⊥) → is_byte w ≡ false → Bad ≡ judged n (words_from (length text - n) text at)
+    pub judged_bad : n < length text → (w.kind ≡ no_kind → ⊥) → is_byte w ≡ false → None ≡ judged n (words_from (length text - n) text at)
     judged_bad h e t = sym (judged_step h e ∙ rw t)
 
 -- A number from 0 to 255 is the remainder that a pair holds.
@@ -145,23 +145,23 @@ AllBytes [] = Unit {0}
 AllBytes (w ∷ ws) = (is_byte w ≡ true) × AllBytes ws
 
 -- A schedule that is not bad: its words are all such numbers, two for each pair.
-no_pairs : (m : ℕ) → Bad ≡ Pairs m → ⊥
+no_pairs : (m : ℕ) → None ≡ Some m → ⊥
 no_pairs m e = let z : ◌≡◌ {A = ℕ} 0 1 = cc in omega arith
 
-ended_pairs : (n m : ℕ) → ended n ≡ Pairs m → n ≡ m + m
+ended_pairs : (n m : ℕ) → ended n ≡ Some m → n ≡ m + m
 unfolding ended
 ended_pairs n m e = go (eqb (n % 2) 0) refl e
   where
-    go : (b : Bool) → eqb (n % 2) 0 ≡ b → cond b (Pairs (n / 2)) Bad ≡ Pairs m → n ≡ m + m
+    go : (b : Bool) → eqb (n % 2) 0 ≡ b → cond b (Some (n / 2)) None ≡ Some m → n ≡ m + m
     go true t e = let h = eqb-true (n % 2) 0 t in let q : n / 2 ≡ m = cc in omega arith
     go false t e = absurd (no_pairs m e)
 
-judged_pairs : (ws : List Word) (n m : ℕ) → judged n ws ≡ Pairs m → AllBytes ws × (n + length ws ≡ m + m)
+judged_pairs : (ws : List Word) (n m : ℕ) → judged n ws ≡ Some m → AllBytes ws × (n + length ws ≡ m + m)
 unfolding judged
 judged_pairs [] n m e = let q = ended_pairs n m e in (tt, omega arith)
 judged_pairs (w ∷ ws) n m e = go (is_byte w) refl e (judged_pairs ws (n + 1) m)
   where
-    go : (b : Bool) → is_byte w ≡ b → cond b (judged (n + 1) ws) Bad ≡ Pairs m → (judged (n + 1) ws ≡ Pairs m → AllBytes ws × (n + 1 + length ws ≡ m + m)) → ((is_byte w ≡ true) × AllBytes ws) × (n + suc (length ws) ≡ m + m)
+    go : (b : Bool) → is_byte w ≡ b → cond b (judged (n + 1) ws) None ≡ Some m → (judged (n + 1) ws ≡ Some m → AllBytes ws × (n + 1 + length ws ≡ m + m)) → ((is_byte w ≡ true) × AllBytes ws) × (n + suc (length ws) ≡ m + m)
     go true t e r = let q = r e in let h = q.1 in ((t, q.0), omega arith)
     go false t e r = absurd (no_pairs m e)
 
@@ -204,7 +204,7 @@ module _ (text : List ℕ) where
       rw (byte_value v g.0, byte_value w g.1.0, r)))
 
   -- Walking from the start gives exactly the pairs that were counted, and they take up every word.
-  pub walk_exact : (m : ℕ) → schedule_of text ≡ Pairs m → (walked m text 0 ≡ pairs_in (words_of text)) × (length (words_of text) ≡ m + m)
+  pub walk_exact : (m : ℕ) → schedule_of text ≡ Some m → (walked m text 0 ≡ pairs_in (words_of text)) × (length (words_of text) ≡ m + m)
   unfolding schedule_of words_of
   walk_exact m e =
       let q = judged_pairs (words_from (length text) text 0) 0 m e in
@@ -213,6 +213,6 @@ module _ (text : List ℕ) where
       (walk m (length text) 0 q.0 n, n)
 
   -- A pair takes two bytes or more.
-  pub pairs_within : (m : ℕ) → schedule_of text ≡ Pairs m → m + m ≤ length text
+  pub pairs_within : (m : ℕ) → schedule_of text ≡ Some m → m + m ≤ length text
   unfolding words_of
   pairs_within m e = let n = (walk_exact m e).1 in omega (arith, words_within (length text) 0)

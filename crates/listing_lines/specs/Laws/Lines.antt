@@ -1,12 +1,12 @@
 -- What is printed would be read back: the digits of a number are a number of document 01, with that value. The laws of lines that
 -- are built up stand here too; the proofs of the code cite them. Assumes nothing.
-use Rattle.std.specs.Prelude.{◌≡◌, refl, Bool, true, false, cond, ◌&&◌, List, [], ◌∷◌, ◌++◌, ℕ, zero, suc, ◌+◌, ◌-◌, ◌*◌, ◌/◌, ◌%◌, ◌≤◌, ◌<◌, min, eqb, leb, ltb, length, get_or, take, drop, replicate}
-use Rattle.std.proofs.Common.{sym, ap, ap₂, ◌∙◌, append_assoc, append-nil, add-one, arith, lt-ltb, le-ltb, ltb-true, ltb-false, le-leb, leb-true, leb-false, eq-eqb, ne_eqb, length-append, length-take, take-append-drop, take-suc, take_all, drop-drop}
+use Rattle.std.specs.Prelude.{◌≡◌, refl, Bool, true, false, cond, ◌&&◌, List, [], ◌∷◌, ◌++◌, ℕ, zero, suc, ◌+◌, ◌-◌, ◌*◌, ◌/◌, ◌%◌, ◌≤◌, ◌<◌, min, eqb, leb, ltb, length, get_or, take}
+use Rattle.std.proofs.Common.{sym, ap, ◌∙◌, append_assoc, append-nil, add-one, arith, lt-ltb, le-ltb, ltb-true, ltb-false, le-leb, leb-true, leb-false, eq-eqb, ne_eqb, length-append, take-suc, take_all}
 use Rattle.std.proofs.Math.ListN.{get_or-append}
 use Rattle.meaning.specs.Events.{event}
 use Rattle.text_words.specs.Words.{run, is_digit, only_digits, leading_zero, is_number, decimal}
 use Rattle.listing_lines.specs.Kinds.{Line}
-use Rattle.listing_lines.specs.Lines.{line_size, text_of, Shows, Adds, Blank, digits, decimal_of, spaced, line_of, turn_line, chan_line}
+use Rattle.listing_lines.specs.Lines.{text_of, Shows, Adds, Blank, digits, decimal_of, spaced, line_of, turn_line, chan_line}
 
 -- DIGITS
 
@@ -129,17 +129,10 @@ decimal_number n =
 
 -- A line that is built up: nothing added yet, and two parts one after the other.
 pub adds_none : (l : Line) → Adds l [] l
-adds_none l = (omega arith, sym (append-nil (text_of l)), refl)
-
-kept_behind : (u w : List ℕ) (n k : ℕ) → drop n u ≡ drop n w → drop (n + k) u ≡ drop (n + k) w
-kept_behind u w n k e = sym (drop-drop k n u) ∙ ap (drop k) e ∙ drop-drop k n w
+adds_none l = sym (append-nil (text_of l))
 
 pub adds_more : (l m r : Line) (u w : List ℕ) → Adds l u m → Adds m w r → Adds l (u ++ w) r
-adds_more l m r u w a b = (
-  omega (arith, length-append u w),
-  b.1 ∙ ap (λ (t : List ℕ). t ++ w) a.1 ∙ append_assoc (text_of l) u w,
-  b.2 ∙ rw b.0 (kept_behind m.bytes l.bytes m.len (length w) a.2),
-)
+adds_more l m r u w a b = b ∙ ap (λ (t : List ℕ). t ++ w) a ∙ append_assoc (text_of l) u w
 
 -- One byte more of a word, one number more of a list.
 pub adds_byte : (l m r : Line) (w : List ℕ) (i : ℕ) → i < length w → Adds l (take i w) m → Adds m (get_or w i 0 ∷ []) r → Adds l (take (i + 1) w) r
@@ -160,30 +153,21 @@ adds_number l m k r ns i h a b c =
     (adds_more l m r (spaced (take i ns)) ((32 ∷ []) ++ decimal_of (get_or ns i 0)) a (adds_more m k r (32 ∷ []) (decimal_of (get_or ns i 0)) b c))
 
 -- What a line shows that was built up from a blank one: a text alone, and a first part with numbers and the newline.
-drop_same : {A : Type 0} (x : A) (n m : ℕ) → drop n (replicate m x) ≡ replicate (m - n) x
-drop_same x zero m = let e : m - 0 ≡ m = omega arith in rw e
-drop_same x (suc n) zero = let e : 0 - suc n ≡ 0 = omega arith in rw e
-drop_same x (suc n) (suc m) = let e : suc m - suc n ≡ m - n = omega arith in rw e (drop_same x n m)
+pub shows_all : (l r : Line) (w : List ℕ) → Blank l → Adds l w r → Shows r w
+shows_all l r w e a = a ∙ ap (λ (t : List ℕ). t ++ w) e
 
-pub shows_all : (l r : Line) (w : List ℕ) → r.len ≤ line_size → Blank l → Adds l w r → Shows r w
-shows_all l r w h e a = (h, a.1 ∙ rw e.0, a.2 ∙ rw e.1 (drop_same 0 r.len line_size))
+pub shows_word : (l r : Line) (w : List ℕ) → Blank l → Adds l w r → Shows r w
+shows_word = shows_all
 
-pub shows_word : (l r : Line) (w : List ℕ) → length w ≤ line_size → Blank l → Adds l w r → Shows r w
-shows_word l r w h e a = shows_all l r w (omega arith) e a
-
-pub shows_line : (l m r : Line) (first ns : List ℕ) → Blank l → Adds l first m → (r.len ≤ line_size) × Adds m (spaced ns ++ (10 ∷ [])) r → Shows r (line_of first ns)
-unfolding line_of
-shows_line l m r first ns e a b = rw (append_assoc first (spaced ns) (10 ∷ [])) (shows_all l r (first ++ (spaced ns ++ (10 ∷ []))) b.0 e (adds_more l m r first (spaced ns ++ (10 ∷ [])) a b.1))
+pub shows_line : (l m r : Line) (first ns : List ℕ) → Blank l → Adds l first m → Adds m (spaced ns ++ (10 ∷ [])) r → Shows r (line_of first ns)
+shows_line l m r first ns e a b = rw (append_assoc first (spaced ns) (10 ∷ [])) (shows_all l r (first ++ (spaced ns ++ (10 ∷ []))) e (adds_more l m r first (spaced ns ++ (10 ∷ [])) a b))
 
 -- Only one line shows a text, and it has the text's length.
-pub shown_length : (l : Line) (text : List ℕ) → length l.bytes ≡ line_size → Shows l text → l.len ≡ length text
-shown_length l text n s = let h = s.0 in let e = ap length s.1 in omega (arith, length-take l.len l.bytes)
+pub shown_length : (l : Line) (text : List ℕ) → Shows l text → length (text_of l) ≡ length text
+shown_length l text s = ap length s
 
-shown_bytes : (l : Line) (text : List ℕ) → length l.bytes ≡ line_size → Shows l text → l.bytes ≡ text ++ replicate (line_size - length text) 0
-shown_bytes l text n s = sym (take-append-drop l.len l.bytes) ∙ ap₂ (λ (u w : List ℕ). u ++ w) s.1 (s.2 ∙ ap (λ (k : ℕ). replicate (line_size - k) 0) (shown_length l text n s))
-
-pub shown_once : (l r : Line) (text : List ℕ) → length l.bytes ≡ line_size → length r.bytes ≡ line_size → Shows l text → Shows r text → l ≡ r
-shown_once l r text n m s t = ap₂ {C = Line} (λ (b : List ℕ) (k : ℕ). record { bytes = b; len = k }) (shown_bytes l text n s ∙ sym (shown_bytes r text m t)) (shown_length l text n s ∙ sym (shown_length r text m t))
+pub shown_once : (l r : Line) (text : List ℕ) → Shows l text → Shows r text → l ≡ r
+shown_once l r text s t = ap (λ (b : List ℕ). record { bytes = record { items = b } }) (s ∙ sym t)
 
 -- Numbers in two parts.
 pub line_append : (first ns ms : List ℕ) → line_of (first ++ spaced ns) ms ≡ line_of first (ns ++ ms)

@@ -1,4 +1,0 @@
-use Rattle.listing_lines.proofs.+with_number.Given as goal
-
-abbrev pub decreases-with_number : goal.decreases-with_number
-decreases-with_number l = l.n

@@ -1,8 +1,0 @@
-use native.Mathlib.Omega.{arith}
-use Rattle.listing_lines.specs.Lines.{bad_schedule_line}
-use Rattle.listing_lines.specs.Laws.Lines.{shows_word}
-use Rattle.listing_lines.proofs.bad_schedule_line.Goals as goal
-
-pub returns : goal.returns
-unfolding bad_schedule_line
-returns c = shows_word _ _ _ (omega arith) c.blank_line.ensures c.with_word.ensures
