@@ -1,17 +1,12 @@
 // The listing program: standard input in, its listing out, line by line. What the lines are is decided in crate `listing_session`.
 #![tactic(auto)]
 
-use listing_answer::{IMAGE_ROOM, INPUT_ROOM, first};
-use listing_lines::Line;
+use listing_answer::{IMAGE_ROOM, INPUT_ROOM};
 use listing_session::{begin, line_count, next};
-use machine::{fresh_values, stored};
+use machine::fresh_values;
+use machine_buffer::store_in;
 use std::io;
 use std::io::{Read, Write};
-
-fn put(out: &mut impl Write, line: Line) -> io::Result<()> {
-    let bytes = line.bytes;
-    out.write_all(first(&bytes, line.len as usize))
-}
 
 // Each line is written as soon as it is known, so that of a listing that can't be written to its end the beginning stands.
 fn list(out: &mut impl Write, input: &[u8]) -> io::Result<()> {
@@ -20,9 +15,8 @@ fn list(out: &mut impl Write, input: &[u8]) -> io::Result<()> {
     let mut values = fresh_values();
     for i in 0..line_count(session) {
         let listed = next(input, &image, i, session, values);
-        put(out, listed.line)?;
-        let after = stored(values, listed.change);
-        values = after;
+        out.write_all(listed.line.text())?;
+        store_in(&mut values, listed.change);
         session = listed.session;
     }
     Ok(())

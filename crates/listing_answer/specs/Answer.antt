@@ -1,6 +1,6 @@
 -- What an input of the listing program comes to: document 01, 'A listing, whole'.
-use Rattle.std.specs.Prelude.{cond, List, ℕ, ◌%◌, ltb, length, take, drop}
-use Rattle.listing_answer.specs.Kinds.{Translated, Schedule, Bad, Pairs, Answer, TooLong, BadSchedule, Runs}
+use Rattle.std.specs.Prelude.{cond, List, ℕ, ◌%◌, ltb, length, take, drop, Option, Some, None}
+use Rattle.listing_answer.specs.Kinds.{Translated, Answer, TooLong, BadSchedule, Runs}
 use Rattle.meaning.specs.Numbers.{input_limit}
 use Rattle.translate.specs.declared.Translated.TheVariants as t
 use Rattle.translate.specs.Translated.{translated, written}
@@ -16,9 +16,9 @@ schedule_in input = drop (split_of input).rest input
 
 -- "A refused text prints only `refused` number place; then a bad or odd schedule prints only `bad schedule`." Places and pairs are
 -- numbers of two bytes.
-unfoldable pub scheduled : ℕ → ℕ → Schedule → Answer
-scheduled n from Bad = BadSchedule
-scheduled n from (Pairs k) = Runs n (k % 65536) from
+unfoldable pub scheduled : ℕ → ℕ → Option ℕ → Answer
+scheduled n from None = BadSchedule
+scheduled n from (Some k) = Runs n (k % 65536) from
 
 abbrev pub answered_as : List ℕ → Translated → Answer
 answered_as input (t.Refused number place) = Refused number (place % 65536)

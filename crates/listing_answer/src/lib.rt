@@ -5,7 +5,7 @@
 ghost use Rattle.std.specs.Prelude.{◌≡◌, ◌%◌, length, take, drop};
 ghost use Rattle.listing_answer.specs.Answer.{scheduled, answered, image_after};
 
-use listing_input::{Schedule, read_schedule, split_at_run};
+use listing_input::{read_schedule, split_at_run};
 use translate::{Translated, translate};
 
 // What an input comes to: one of the three lines that stand alone, or a run.
@@ -57,12 +57,12 @@ fn narrow(n: usize) -> u16
     (n % 65536) as u16
 }
 
-fn scheduled_as(length: usize, rest: usize, given: Schedule) -> Answer
+fn scheduled_as(length: usize, rest: usize, given: Option<usize>) -> Answer
     ensures { result ≡ scheduled length rest given }
 {
     match given {
-        Schedule::Bad => Answer::BadSchedule,
-        Schedule::Pairs(n) => Answer::Runs(length, narrow(n), rest),
+        None => Answer::BadSchedule,
+        Some(n) => Answer::Runs(length, narrow(n), rest),
     }
 }
 

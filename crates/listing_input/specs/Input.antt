@@ -25,7 +25,7 @@ text_length begins (b ∷ l) = cond (begins && is_run (b ∷ l)) 0 (suc (text_le
 
 -- The text ends there, and the schedule begins four bytes on, behind `run` and its newline; at the input's end where that newline
 -- or the line is missing: "No such line means no turns."
-abbrev pub split_of : List ℕ → Split
+unfoldable pub split_of : List ℕ → Split
 split_of input = record { text = text_length true input; rest = min (length input) (text_length true input + 4) }
 
 -- "then numbers 0 to 255 in pairs, task and choice"
@@ -59,5 +59,5 @@ pairs_in (v ∷ []) = []
 pairs_in (v ∷ w ∷ ws) = (v.value, w.value) ∷ pairs_in ws
 
 -- The pair that begins at a place.
-abbrev pub pair_at : List ℕ → ℕ → Pair
+unfoldable pub pair_at : List ℕ → ℕ → Pair
 pair_at text at = record { task = (word_at text at).value % 256; choice = (word_at text (word_at text at).next).value % 256; next = (word_at text (word_at text at).next).next }

@@ -1,9 +1,9 @@
 -- Document 01, 'A listing, whole': what is printed for an input, as one function. (laws/Whole: the lines of a session, one behind the
 -- other, are just that.)
-use Rattle.std.specs.Prelude.{cond, List, [], ◌∷◌, ◌++◌, ℕ, zero, suc, ◌+◌, ltb, length, take}
+use Rattle.std.specs.Prelude.{cond, List, [], ◌∷◌, ◌++◌, ℕ, zero, suc, ◌+◌, ltb, length, take, Option, Some, None}
 use Rattle.meaning.specs.Numbers.{input_limit}
 use Rattle.meaning.specs.Events.{numbers}
-use Rattle.listing_session.specs.Kinds.{Translated, State, Turned, Schedule, Bad, Pairs}
+use Rattle.listing_session.specs.Kinds.{Translated, State, Turned}
 use Rattle.translate.specs.declared.Translated.TheVariants as t
 use Rattle.translate.specs.Translated.{translated, written}
 use Rattle.machine_records.specs.Values.{Values, changed}
@@ -37,9 +37,9 @@ run_listing image ps = run_lines image (end_lines (started image).state) 0 ps (s
 
 -- "A refused text prints only `refused` number place; then a bad or odd schedule prints only `bad schedule`." The image is the
 -- part of the buffer that the translation wrote; the pairs are those of all words of the schedule.
-abbrev pub schedule_listing : List ℕ → List ℕ → Schedule → List ℕ
-schedule_listing image text Bad = bad_schedule_line
-schedule_listing image text (Pairs m) = run_listing image (pairs_in (words_of text))
+abbrev pub schedule_listing : List ℕ → List ℕ → Option ℕ → List ℕ
+schedule_listing image text None = bad_schedule_line
+schedule_listing image text (Some m) = run_listing image (pairs_in (words_of text))
 
 abbrev pub text_listing : List ℕ → List ℕ → Translated → List ℕ
 text_listing input out (t.Refused number place) = refused_line number place

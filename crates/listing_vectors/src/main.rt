@@ -4,10 +4,10 @@
 
 ghost use Rattle.std.specs.Prelude.{◌+◌, ◌≤◌, length};
 
-use listing_answer::{IMAGE_ROOM, INPUT_ROOM, behind, first};
-use listing_lines::Line;
+use listing_answer::{IMAGE_ROOM, INPUT_ROOM};
 use listing_session::{begin, line_count, next};
-use machine::{fresh_values, stored};
+use machine::fresh_values;
+use machine_buffer::store_in;
 use std::fs::File;
 use std::io::Read;
 use std::rt::Files;
@@ -18,57 +18,36 @@ const NAME_LIMIT: usize = 124;
 
 const LISTING_ROOM: usize = 65536;
 
-#[derive(Clone, Copy)]
-enum Verdict {
-    Same,
-    Differs(usize), // at this byte
-}
-
 // THE COMPARISON
 
-// How many bytes two slices begin with in common.
-fn in_common(a: &[u8], b: &[u8]) -> usize
-    ensures { result ≤ length a.now }
-{
-    for k in 0..a.len() {
-        if k >= b.len() || a[k] != b[k] {
-            return k;
-        }
-    }
-    a.len()
-}
-
 // How many bytes of a line stand in the expected listing from place `at` on.
-fn found(expected: &[u8], at: usize, line: Line) -> usize
+fn found(expected: &[u8], at: usize, line: &[u8]) -> usize
     requires { at ≤ length expected.now }
     ensures { at + result ≤ length expected.now }
 {
-    let bytes = line.bytes;
-    in_common(behind(expected, at), first(&bytes, line.len as usize))
+    let there = &expected[at..];
+    let pairs = there.iter().zip(line);
+    pairs.take_while(|(a, b)| a == b).count()
 }
 
-fn compare(input: &[u8], expected: &[u8]) -> Verdict {
+// The first byte at which an input's listing differs from the expected one.
+fn first_difference(input: &[u8], expected: &[u8]) -> Option<usize> {
     let mut image = [0u8; IMAGE_ROOM];
     let mut session = begin(input, &mut image);
     let mut values = fresh_values();
     let mut at = 0;
     for i in 0..line_count(session) {
         let listed = next(input, &image, i, session, values);
-        let line = listed.line;
-        let len = line.len as usize;
+        let line = listed.line.text();
         let k = found(expected, at, line);
         at += k;
-        if k < len {
-            return Verdict::Differs(at);
+        if k < line.len() {
+            return Some(at);
         }
-        let after = stored(values, listed.change);
-        values = after;
+        store_in(&mut values, listed.change);
         session = listed.session;
     }
-    if at < expected.len() {
-        return Verdict::Differs(at);
-    }
-    Verdict::Same
+    if at < expected.len() { Some(at) } else { None }
 }
 
 // THE FILES
@@ -82,10 +61,10 @@ fn read<R: Files + Alloc>(rt: &R, path: &str, most: usize) -> io::Result<Vec<u8,
     Ok(bytes)
 }
 
-fn say(rt: &impl Print, verdict: Verdict, name: &str) -> io::Result<()> {
-    match verdict {
-        Verdict::Same => println!(rt; "ok {name}"),
-        Verdict::Differs(at) => println!(rt; "differs {name} at byte {at}"),
+fn say(rt: &impl Print, difference: Option<usize>, name: &str) -> io::Result<()> {
+    match difference {
+        None => println!(rt; "ok {name}"),
+        Some(at) => println!(rt; "differs {name} at byte {at}"),
     }
 }
 
@@ -94,7 +73,8 @@ fn run_case<R: Files + Print + Alloc>(rt: &R, name: &str) -> io::Result<()> {
     let input = read(rt, input_path.as_str(), INPUT_ROOM)?;
     let expected_path = format!(in rt.alloc(); "{name}.out")?;
     let expected = read(rt, expected_path.as_str(), LISTING_ROOM)?;
-    say(rt, compare(input.as_slice(), expected.as_slice()), name)
+    let difference = first_difference(input.as_slice(), expected.as_slice());
+    say(rt, difference, name)
 }
 
 // A longer name is passed over, and its line is then missing.

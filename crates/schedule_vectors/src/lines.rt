@@ -1,45 +1,47 @@
-// A text of blocks, line by line, and what a line tells: a word, two numbers, bytes. Every text is answered: a line that is not the
-// one due, or can't be read, is one that is not good, and so is every line behind it.
-ghost use Rattle.std.specs.Prelude.{◌≡◌, ◌≢◌, ℕ, ◌+◌, ◌-◌, ◌<◌, ◌≤◌, ◌↔◌, [], true, false, length, slice_index, slice_range, ◌==◌, ◌||◌, IsTrue, if◌then◌else◌};
+// A text of blocks, line by line, and what a line tells: a word, two numbers, bytes. Every text is answered: the first line that is not
+// the one due, or can't be read, ends the reading of its block.
+ghost use Rattle.std.specs.Prelude.{◌≡◌, ◌≢◌, ℕ, ◌+◌, ◌-◌, ◌<◌, ◌≤◌, ◌↔◌, [], length, slice_index, slice_range, ◌==◌, ◌||◌, IsTrue, IfOk, IfErr, IfSome, Ok, Err, if◌then◌else◌};
+ghost use Rattle.schedule_vectors.specs.declared.lines.Line.{Line};
+ghost use Rattle.schedule_vectors.specs.declared.lines.Difference.TheVariants.{Unread, OutOfMemory};
 
 use image_rows::bytes::byte_at;
+use std::alloc::{AllocError, Global};
 
-// Room for the bytes that one line tells. A line that tells more can't be read.
+// The most bytes that one line can tell. A line that tells more can't be read.
 pub const ROOM: usize = 16384;
 
 // The largest number that one more digit may be put behind.
 const LARGEST: usize = 999999999;
 
-// A line that begins at `at` with its key. What it tells stands from `from` up to `to`, the blank behind the key included; as bytes
-// it is so many.
+// In what a block differs: the first of answer, state and records that is not the stored one, or a line that is not the one due.
+#[derive(Clone, Copy)]
+pub enum Difference {
+    Return,
+    State,
+    Records,
+    Unread(usize), // the line at this place of the block
+    OutOfMemory,
+}
+
+impl From<AllocError> for Difference {
+    ghost from_gives = { λ _ d. d ≡ OutOfMemory };
+
+    fn from(_e: AllocError) -> Difference {
+        Difference::OutOfMemory
+    }
+}
+
+// A line that begins at `at` with its key. What it tells stands from `from` up to `to`, the blank behind the key included.
 #[derive(Clone, Copy)]
 pub struct Line {
-    pub good: bool,
     pub at: usize,
     pub from: usize,
     pub to: usize,
-    pub bytes: usize,
-}
-
-// The two numbers of a line.
-#[derive(Clone, Copy)]
-pub struct TwoNumbers {
-    pub good: bool,
-    pub first: usize,
-    pub second: usize,
-}
-
-// How many bytes a line tells.
-#[derive(Clone, Copy)]
-pub struct Bytes {
-    pub good: bool,
-    pub count: usize,
 }
 
 // A number, and the place behind its digits.
 #[derive(Clone, Copy)]
 struct Number {
-    good: bool,
     value: usize,
     next: usize,
 }
@@ -47,7 +49,6 @@ struct Number {
 // So many times the same byte, and the place behind what says so.
 #[derive(Clone, Copy)]
 struct Run {
-    good: bool,
     byte: u8,
     times: usize,
     next: usize,
@@ -61,27 +62,10 @@ pub(crate) fn part(s: &[u8], from: usize, to: usize) -> &[u8]
     ensures crossed { to < from → result.now ≡ [] }
     ensures past { length s.now < to → result.now ≡ [] }
 {
-    if to <= s.len() {
-        if from <= to {
-            return &s[from..to];
-        }
+    if from <= to && to <= s.len() {
+        return &s[from..to];
     }
     &s[0..0]
-}
-
-// The first bytes of a buffer.
-pub(crate) fn first(room: &[u8; ROOM], n: usize) -> &[u8]
-    ensures there { n ≤ ROOM → result.now ≡ slice_range room.now 0 n }
-    ensures past { ROOM < n → result.now ≡ [] }
-{
-    part(room, 0, n)
-}
-
-// Whether two slices hold the same bytes.
-pub(crate) fn same(a: &[u8], b: &[u8]) -> bool
-    ensures { IsTrue result ↔ (a.now ≡ b.now) }
-{
-    a == b
 }
 
 // The first place from `at` on with this byte, or the text's end.
@@ -135,10 +119,11 @@ fn tells_nothing(text: &[u8], at: usize) -> bool
     ensures { result ≡ (slice_index text.now at == 10 || slice_index text.now at == 35) }
 {
     let first = byte_at(text, at);
-    if first == b'\n' { true } else { first == b'#' }
+    first == b'\n' || first == b'#'
 }
 
 // Where the first line from `at` on that tells something begins, or the text's end.
+// Kept, point 3: the walk goes from line to line, so no counted range has its places.
 pub(crate) fn next_told(text: &[u8], at: usize) -> usize
     ensures ahead { at ≤ result }
     ensures past { length text.now ≤ at → result ≡ at }
@@ -158,37 +143,41 @@ pub(crate) fn next_told(text: &[u8], at: usize) -> usize
     i
 }
 
-// The same line, good only where this holds too.
-pub(crate) fn held(mut line: Line, holds: bool) -> Line
-    ensures { result ≡ (if holds then line else record line { good = false }) }
+// The next line that tells something: its first word, up to a blank or the line's end, and what stands behind it.
+pub(crate) fn line_behind(text: &[u8], from: usize) -> Line
+    ensures ahead { from ≤ result.at }
+    ensures tells { result.at < length text.now → (slice_index text.now result.at ≢ 10) × (slice_index text.now result.at ≢ 35) }
+    ensures end { result.to < length text.now → slice_index text.now result.to ≡ 10 }
 {
-    if !holds {
-        line.good = false;
+    let at = next_told(text, from);
+    Line {
+        at: at,
+        from: word_end(text, at),
+        to: up_to(text, at, b'\n'),
     }
-    line
 }
 
-// The next line that tells something: good where it has the key that is due there.
-pub(crate) fn line_due(text: &[u8], before: Line, key: &[u8]) -> Line
-    ensures kept { before.good ≡ false → result ≡ before }
-    ensures ahead { before.good ≡ true → before.to ≤ result.at }
-    ensures tells { before.good ≡ true → result.at < length text.now → (slice_index text.now result.at ≢ 10) × (slice_index text.now result.at ≢ 35) }
-    ensures key { before.good ≡ true → result.at ≤ length text.now → (IsTrue result.good ↔ (slice_range text.now result.at result.from ≡ key.now)) }
-    ensures end { before.good ≡ true → result.to < length text.now → slice_index text.now result.to ≡ 10 }
-    ensures none { before.good ≡ true → result.bytes ≡ 0 }
+// The same line where this holds; otherwise it can't be read.
+pub(crate) fn held(line: Line, holds: bool) -> Result<Line, Difference>
+    ensures { result ≡ (if holds then Ok line else Err (Unread line.at)) }
 {
-    if !before.good {
-        return before;
+    if holds {
+        Ok(line)
+    } else {
+        Err(Difference::Unread(line.at))
     }
-    let at = next_told(text, before.to);
-    let from = word_end(text, at);
-    Line {
-        good: same(part(text, at, from), key),
-        at: at,
-        from: from,
-        to: up_to(text, at, b'\n'),
-        bytes: 0,
-    }
+}
+
+// The next line that tells something, which has the key that is due there.
+pub(crate) fn line_due(text: &[u8], from: usize, key: &[u8]) -> Result<Line, Difference>
+    ensures ahead { IfOk result (λ l. from ≤ l.at) }
+    ensures tells { IfOk result (λ l. l.at < length text.now → (slice_index text.now l.at ≢ 10) × (slice_index text.now l.at ≢ 35)) }
+    ensures key { IfOk result (λ l. l.at ≤ length text.now → slice_range text.now l.at l.from ≡ key.now) }
+    ensures end { IfOk result (λ l. l.to < length text.now → slice_index text.now l.to ≡ 10) }
+    ensures other { IfErr result (λ d. (l : Line) × (d ≡ Unread l.at) × (from ≤ l.at) × (l.at ≤ length text.now → slice_range text.now l.at l.from ≢ key.now)) }
+{
+    let line = line_behind(text, from);
+    held(line, part(text, line.at, line.from) == key)
 }
 
 // WHAT A LINE TELLS
@@ -202,180 +191,111 @@ pub(crate) fn told(text: &[u8], line: Line) -> &[u8]
     part(text, line.from, line.to)
 }
 
-// A digit's value: 16 where the byte is none of 0 to 9 and a to f.
-fn digit_of(byte: u8) -> u8
-    ensures { result ≤ 16 }
+// A digit's value: 0 to 9 and a to f.
+fn digit_of(byte: u8) -> Option<u8>
+    ensures { IfSome result (λ d. d < 16) }
 {
-    if byte >= b'0' {
-        if byte <= b'9' {
-            return byte - b'0';
-        }
+    match byte {
+        b'0'..=b'9' => Some(byte - b'0'),
+        b'a'..=b'f' => Some(byte - b'a' + 10),
+        _ => None,
     }
-    if byte >= b'a' {
-        if byte <= b'f' {
-            return byte - b'a' + 10;
-        }
-    }
-    16
 }
 
-// The decimal number at a place: not good where no digit stands there, or too many.
-fn number_at(told: &[u8], at: usize) -> Number
-    ensures { at ≤ result.next }
+// The decimal number at a place, if a digit stands there and not too many.
+fn number_at(told: &[u8], at: usize) -> Option<Number>
+    ensures { IfSome result (λ n. at < n.next) }
 {
-    let mut i = at;
     let mut value: usize = 0;
-    while i < told.len() {
-        let digit = digit_of(told[i]);
-        if digit > 9 {
+    let mut next = at;
+    for i in at..told.len() {
+        let byte = told[i];
+        if byte < b'0' || byte > b'9' {
             break;
         }
         if value > LARGEST {
-            return Number {
-                good: false,
-                value: value,
-                next: i,
-            };
+            return None;
         }
-        value = 10 * value + (digit as usize);
-        i = i + 1;
+        value = 10 * value + (byte - b'0') as usize;
+        next = i + 1;
     }
-    Number {
-        good: at < i,
-        value: value,
-        next: i,
+    if at < next {
+        Some(Number {
+            value: value,
+            next: next,
+        })
+    } else {
+        None
     }
 }
 
 // Two numbers, a blank ahead of each, and nothing behind them.
-pub(crate) fn two_numbers(told: &[u8]) -> TwoNumbers {
-    let size = told.len();
-    let first = number_at(told, 1);
-    let between = first.next;
-    if between >= size {
-        return TwoNumbers {
-            good: false,
-            first: 0,
-            second: 0,
-        };
-    }
-    let second = number_at(told, between + 1);
-    let blanks = (byte_at(told, 0) == b' ') & (told[between] == b' ');
-    let digits = first.good & second.good;
-    TwoNumbers {
-        good: blanks & digits & (second.next == size),
-        first: first.value,
-        second: second.value,
+pub(crate) fn two_numbers(told: &[u8]) -> Option<(usize, usize)> {
+    let first = number_at(told, 1)?;
+    let second = number_at(told, first.next + 1)?;
+    let blanks = byte_at(told, 0) == b' ' && byte_at(told, first.next) == b' ';
+    if blanks && second.next == told.len() {
+        Some((first.value, second.value))
+    } else {
+        None
     }
 }
 
-// Two digits as the byte they tell: 256 where one of them is none.
-fn byte_of(high: u8, low: u8) -> u16 {
-    let h = digit_of(high);
-    let l = digit_of(low);
-    if h > 15 {
-        return 256;
-    }
-    if l > 15 {
-        return 256;
-    }
-    16 * (h as u16) + (l as u16)
-}
-
-// A run of a byte: not good where it is none.
-fn run_of(byte: u16, times: usize, next: usize) -> Run
-    ensures { result.next ≡ next }
-{
-    Run {
-        good: byte < 256,
-        byte: (byte % 256) as u8,
-        times: times,
-        next: next,
-    }
-}
-
-// A byte as often as the number at this place says.
-fn repeated(told: &[u8], at: usize, byte: u16) -> Run
-    ensures { at ≤ result.next }
-{
-    let times = number_at(told, at);
-    if !times.good {
-        return run_of(256, 0, times.next);
-    }
-    run_of(byte, times.value, times.next)
+// Two digits as the byte they tell.
+fn byte_of(high: u8, low: u8) -> Option<u8> {
+    Some(16 * digit_of(high)? + digit_of(low)?)
 }
 
 // The byte at a place: once, or as often as a number behind a star says. A blank is a byte no times.
-fn run_at(told: &[u8], at: usize) -> Run
+fn run_at(told: &[u8], at: usize) -> Option<Run>
     requires { at < length told.now }
-    ensures { at < result.next }
+    ensures { IfSome result (λ r. at < r.next) }
 {
-    let size = told.len();
-    let second = at + 1;
     if told[at] == b' ' {
-        return run_of(0, 0, second);
+        return Some(Run {
+            byte: 0,
+            times: 0,
+            next: at + 1,
+        });
     }
-    if second >= size {
-        return run_of(256, 0, second);
+    let byte = byte_of(told[at], byte_at(told, at + 1))?;
+    if byte_at(told, at + 2) != b'*' {
+        return Some(Run {
+            byte: byte,
+            times: 1,
+            next: at + 2,
+        });
     }
-    let byte = byte_of(told[at], told[second]);
-    let star = second + 1;
-    if star < size {
-        if told[star] == b'*' {
-            return repeated(told, star + 1, byte);
-        }
-    }
-    run_of(byte, 1, star)
+    let times = number_at(told, at + 3)?;
+    Some(Run {
+        byte: byte,
+        times: times.value,
+        next: times.next,
+    })
 }
 
-// Puts a byte to every place from one up to another.
-fn fill(out: &mut [u8; ROOM], from: usize, to: usize, byte: u8) {
-    for i in from..to.min(ROOM) {
-        out[i] = byte;
+// The bytes that a line tells; none where it can't be read. A line that tells no bytes says so by `-`.
+// Kept, point 3: the walk goes from run to run, so no counted range has its places.
+pub(crate) fn bytes_of(alloc: Global, told: &[u8]) -> Result<Option<Vec<u8>>, AllocError> {
+    let mut bytes = Vec::new(alloc);
+    if told == b" -".as_slice() {
+        return Ok(Some(bytes));
     }
-}
-
-// No bytes, told so or not to be read.
-fn no_bytes(good: bool) -> Bytes {
-    Bytes {
-        good: good,
-        count: 0,
-    }
-}
-
-// The bytes that a line tells, put at the start of a buffer. A line that tells none but says so by `-` is good, any other without a
-// byte is not.
-pub(crate) fn bytes_of(told: &[u8], out: &mut [u8; ROOM]) -> Bytes {
-    if same(told, b" -") {
-        return no_bytes(true);
-    }
-    let mut count = 0;
     let mut i = 0;
     while i < told.len() {
-        let run = run_at(told, i);
-        if !run.good {
-            return no_bytes(false);
+        let Some(run) = run_at(told, i) else {
+            return Ok(None);
+        };
+        if bytes.len().saturating_add(run.times) > ROOM {
+            return Ok(None);
         }
-        if run.times > ROOM - count {
-            return no_bytes(false);
+        for _ in 0..run.times {
+            bytes.push(run.byte)?;
         }
-        fill(out, count, count + run.times, run.byte);
-        count = count + run.times;
         i = run.next;
     }
-    Bytes {
-        good: count > 0,
-        count: count,
+    if bytes.is_empty() {
+        return Ok(None);
     }
-}
-
-// The next line, which has this key and tells bytes.
-pub(crate) fn bytes_due(text: &[u8], before: Line, key: &[u8], out: &mut [u8; ROOM]) -> Line {
-    let mut line = line_due(text, before, key);
-    if line.good {
-        let bytes = bytes_of(told(text, line), out);
-        line.good = bytes.good;
-        line.bytes = bytes.count;
-    }
-    line
+    Ok(Some(bytes))
 }

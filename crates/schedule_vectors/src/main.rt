@@ -4,8 +4,9 @@
 
 ghost use Rattle.std.specs.Prelude.{◌<◌, length};
 
-use crate::block::{Verdict, judged, name_line};
-use crate::lines::{next_line, next_told, part, same, told, word_end};
+use crate::block::{judge, name_line};
+use crate::lines::{Difference, next_line, next_told, part, told, word_end};
+use std::alloc::Global;
 use std::fs::File;
 use std::io::{Read, Write};
 use std::rt::Files;
@@ -25,18 +26,19 @@ struct Tally {
     differ: u64,
 }
 
-// WHAT IS SAID
+impl Tally {
+    // One more block.
+    fn block(&mut self) {
+        self.blocks = self.blocks.wrapping_add(1);
+    }
 
-// Whether a block is as stored.
-fn is_same(verdict: Verdict) -> bool {
-    match verdict {
-        Verdict::Same => true,
-        Verdict::Return => false,
-        Verdict::State => false,
-        Verdict::Records => false,
-        Verdict::Unread(_) => false,
+    // One more block, or file, that differs.
+    fn difference(&mut self) {
+        self.differ = self.differ.wrapping_add(1);
     }
 }
+
+// WHAT IS SAID
 
 // The line that can't be read by its first word; a line that lacks at the block's end has none.
 fn say_unread(out: &mut impl Write, block: &[u8], at: usize) -> io::Result<()> {
@@ -48,20 +50,30 @@ fn say_unread(out: &mut impl Write, block: &[u8], at: usize) -> io::Result<()> {
     }
 }
 
-// The line of a block.
-fn say(out: &mut impl Write, verdict: Verdict, block: &[u8]) -> io::Result<()> {
-    if is_same(verdict) {
-        out.write_all(b"ok")?;
-    } else {
-        out.write_all(b"differs")?;
+// In what a block differs.
+fn say_difference(out: &mut impl Write, block: &[u8], difference: Difference) -> io::Result<()> {
+    match difference {
+        Difference::Return => out.write_all(b" return"),
+        Difference::State => out.write_all(b" state"),
+        Difference::Records => out.write_all(b" records"),
+        Difference::Unread(at) => say_unread(out, block, at),
+        Difference::OutOfMemory => out.write_all(b" out of memory"),
     }
-    out.write_all(told(block, name_line(block)))?;
+}
+
+// The line of a block.
+fn say(out: &mut impl Write, block: &[u8], verdict: Result<(), Difference>) -> io::Result<()> {
+    let name = told(block, name_line(block));
     match verdict {
-        Verdict::Same => {}
-        Verdict::Return => out.write_all(b" return")?,
-        Verdict::State => out.write_all(b" state")?,
-        Verdict::Records => out.write_all(b" records")?,
-        Verdict::Unread(at) => say_unread(out, block, at)?,
+        Ok(()) => {
+            out.write_all(b"ok")?;
+            out.write_all(name)?;
+        }
+        Err(difference) => {
+            out.write_all(b"differs")?;
+            out.write_all(name)?;
+            say_difference(out, block, difference)?;
+        }
     }
     out.write_all(b"\n")
 }
@@ -73,21 +85,20 @@ fn say_file(out: &mut impl Write, path: &str, why: &str) -> io::Result<()> {
 
 // The last line.
 fn say_tally(out: &mut impl Write, tally: Tally) -> io::Result<()> {
-    let blocks = tally.blocks;
-    let differ = tally.differ;
-    writeln!(out, "{blocks} blocks, {differ} differ")
+    writeln!(out, "{} blocks, {} differ", tally.blocks, tally.differ)
 }
 
 // THE BLOCKS
 
 // Where the block that begins at `at` ends: ahead of the next line that names one, or with the text.
+// Kept, point 3: the walk goes from line to line, so no counted range has its places.
 fn block_end(text: &[u8], at: usize) -> usize
     requires { at < length text.now }
     ensures { at < result }
 {
     let mut i = next_line(text, at);
     while i < text.len() {
-        if same(part(text, i, word_end(text, i)), b"==") {
+        if part(text, i, word_end(text, i)) == b"==".as_slice() {
             return i;
         }
         i = next_line(text, i);
@@ -95,50 +106,44 @@ fn block_end(text: &[u8], at: usize) -> usize
     i
 }
 
-// One more that differs.
-fn differing(tally: Tally) -> Tally {
-    Tally {
-        blocks: tally.blocks,
-        differ: tally.differ.wrapping_add(1),
-    }
-}
-
 // One block: its verdict said and counted.
-fn run_block(out: &mut impl Write, block: &[u8], tally: Tally) -> io::Result<Tally> {
-    let verdict = judged(block);
-    say(out, verdict, block)?;
-    let counted = Tally {
-        blocks: tally.blocks.wrapping_add(1),
-        differ: tally.differ,
-    };
-    if is_same(verdict) {
-        Ok(counted)
-    } else {
-        Ok(differing(counted))
+fn run_block(
+    alloc: Global,
+    out: &mut impl Write,
+    block: &[u8],
+    tally: &mut Tally,
+) -> io::Result<()> {
+    let verdict = judge(alloc, block);
+    tally.block();
+    if verdict.is_err() {
+        tally.difference();
     }
+    say(out, block, verdict)
 }
 
 // Every block of a text from `first` on.
+// Kept, point 3: the walk goes from block to block, so no counted range has its places.
 fn run_blocks(
+    alloc: Global,
     out: &mut impl Write,
     text: &[u8],
     first: usize,
-    mut tally: Tally,
-) -> io::Result<Tally> {
+    tally: &mut Tally,
+) -> io::Result<()> {
     let mut at = first;
     while at < text.len() {
         let end = block_end(text, at);
-        tally = run_block(out, part(text, at, end), tally)?;
+        run_block(alloc, out, part(text, at, end), tally)?;
         at = end;
     }
-    Ok(tally)
+    Ok(())
 }
 
 // THE FILES
 
 // The first bytes of a file, as many as are told apart. One that can't be opened counts as empty.
-fn read<R: Files + Alloc>(rt: &R, path: &str) -> io::Result<Vec<u8, R::A>> {
-    let mut bytes = Vec::new(rt.alloc());
+fn read<R: Files>(rt: &R, alloc: Global, path: &str) -> io::Result<Vec<u8>> {
+    let mut bytes = Vec::new(alloc);
     if let Ok(file) = File::open(rt, path) {
         file.take(FILE_ROOM as u64).read_to_end(&mut bytes)?;
     }
@@ -146,23 +151,24 @@ fn read<R: Files + Alloc>(rt: &R, path: &str) -> io::Result<Vec<u8, R::A>> {
 }
 
 // A file that is too long, and one without a block, as an empty one, don't pass.
-fn run_file<R: Files + Alloc, W: Write>(
+fn run_file<R: Files>(
     rt: &R,
-    out: &mut W,
+    alloc: Global,
+    out: &mut impl Write,
     path: &str,
-    tally: Tally,
-) -> io::Result<Tally> {
-    let text = read(rt, path)?;
+    tally: &mut Tally,
+) -> io::Result<()> {
+    let text = read(rt, alloc, path)?;
     if text.len() >= FILE_ROOM {
-        say_file(out, path, "too long")?;
-        return Ok(differing(tally));
+        tally.difference();
+        return say_file(out, path, "too long");
     }
     let first = next_told(text.as_slice(), 0);
     if first >= text.len() {
-        say_file(out, path, "without a block")?;
-        return Ok(differing(tally));
+        tally.difference();
+        return say_file(out, path, "without a block");
     }
-    run_blocks(out, text.as_slice(), first, tally)
+    run_blocks(alloc, out, text.as_slice(), first, tally)
 }
 
 // Runs every file named, in order.
@@ -173,7 +179,7 @@ fn main(rt: HostRuntime) -> io::Result<()> {
         differ: 0,
     };
     for path in env::args(&rt)?.skip(1) {
-        tally = run_file(&rt, &mut out, path.as_str(), tally)?;
+        run_file(&rt, rt.alloc(), &mut out, path.as_str(), &mut tally)?;
     }
     say_tally(&mut out, tally)
 }

@@ -1,6 +1,5 @@
 // A state told as bytes: document 02's record of E2 without its trailer, 757 bytes, low byte first. Every byte has one cell or value
 // and, the two counts aside, every cell and value has its bytes, so that states are the same where their bytes are.
-use crate::lines::ROOM;
 use image_rows::bytes::{byte_at, two_at};
 use machine_store::{
     CHAN_COUNT, CLOSED, FAULT, LAP, LENGTH, NAMED, OK, ORDER, REGISTER, STAMP, STATE_CELLS,
@@ -49,7 +48,7 @@ fn put_chan(record: &[u8], c: u8, cells: &mut [u8; STATE_CELLS]) {
 }
 
 // The state that a record tells, with these counts of tasks and channels.
-pub(crate) fn state_of(record: &[u8; ROOM], tasks: u8, channels: u8) -> State {
+pub(crate) fn state_of(record: &[u8], tasks: u8, channels: u8) -> State {
     let mut words = [0u16; STATE_WORDS];
     let mut cells = [0u8; STATE_CELLS];
     cells[FAULT] = byte_at(record, 0);
@@ -79,7 +78,7 @@ fn row_of(record: &[u8], c: u8) -> [u16; CELLS as usize] {
 }
 
 // The values that a record tells.
-pub(crate) fn values_of(record: &[u8; ROOM]) -> [[u16; CELLS as usize]; CHANS as usize] {
+pub(crate) fn values_of(record: &[u8]) -> [[u16; CELLS as usize]; CHANS as usize] {
     let mut values = [[0u16; CELLS as usize]; CHANS as usize];
     for c in 0..CHANS {
         values[c as usize] = row_of(record, c);

@@ -1,10 +1,10 @@
 use Rattle.listing_answer.specs.Answer.{scheduled}
 use Rattle.listing_answer.proofs.scheduled_as.Goals as goal
 
-pub returns-in-Bad : goal.returns-in-Bad
+pub returns-in-None : goal.returns-in-None
 unfolding scheduled
-returns-in-Bad c = rw c.in-Bad.is
+returns-in-None c = rw c.in-None.is
 
-pub returns-in-Pairs : goal.returns-in-Pairs
+pub returns-in-Some : goal.returns-in-Some
 unfolding scheduled
-returns-in-Pairs c = rw (c.in-Pairs.is, c.narrow.ensures)
+returns-in-Some c = rw (c.in-Some.is, c.narrow.ensures)

@@ -1,7 +1,7 @@
 use Rattle.std.proofs.Common.{◌≡◌, ℕ, true, sym, ◌∙◌, min, ◌+◌, ◌-◌, arith, length}
 use Rattle.std.proofs.Math.Seq.{take-length}
 use Rattle.std.proofs.Common.{length-drop, take, drop, List}
-use Rattle.listing_input.specs.Input.{text_length}
+use Rattle.listing_input.specs.Input.{text_length, split_of}
 use Rattle.listing_input.specs.Laws.Input.{text_more, text_stop, text_end}
 use Rattle.listing_input.proofs.split_at_run.Goals as goal
 
@@ -10,6 +10,7 @@ to_the_end : (l : List ℕ) (i : ℕ) → take (length l - i) (drop i l) ≡ dro
 to_the_end l i = rw (← length-drop i l) (take-length (drop i l))
 
 pub returns-then-begins_run : goal.returns-then-begins_run
+unfolding split_of
 returns-then-begins_run c =
     let a = c.args in
     let l = c.loop-i in
@@ -23,6 +24,7 @@ loop-i-preserved c =
     text_more a.input.now l.begins l.i c.loop-i-test.true (rw (to_the_end a.input.now l.i) at (sym c.begins_run.ensures ∙ c.if-begins_run.false)) ∙ l.invariant
 
 pub returns : goal.returns
+unfolding split_of
 returns c =
     let a = c.args in
     let l = c.loop-i in

@@ -18,7 +18,7 @@ use Rattle.listing_input.specs.Input.{run_word, is_run, text_length, split_of, i
 -- THE TEXT
 
 pub run_three : (w : List ℕ) → length w ≡ 3 → same_word w run_word ≡ (eqb (get_or w 0 0) 114 && (eqb (get_or w 1 0) 117 && (eqb (get_or w 2 0) 110 && true)))
-unfolding same_word run_word
+unfolding same_word
 run_three [] e = absurd (omega arith)
 run_three (a ∷ []) e = absurd (omega arith)
 run_three (a ∷ b ∷ []) e = absurd (omega arith)
@@ -26,7 +26,6 @@ run_three (a ∷ b ∷ c ∷ []) e = refl
 run_three (a ∷ b ∷ c ∷ d ∷ w) e = absurd (omega arith)
 
 pub run_other : (w : List ℕ) → (length w ≡ 3 → ⊥) → same_word w run_word ≡ false
-unfolding run_word
 run_other w n = go (same_word w run_word) refl
   where
     go : (b : Bool) → same_word w run_word ≡ b → same_word w run_word ≡ false
@@ -132,7 +131,6 @@ module _ (text : List ℕ) (at : ℕ) {w : Word} (read : w ≡ word_at text at) 
 
 -- A number from 0 to 255 is the remainder that a pair holds.
 byte_value : (w : Word) → is_byte w ≡ true → w.value % 256 ≡ w.value
-unfolding is_byte
 byte_value w e = go (eqb w.kind number_kind) e
   where
     go : (b : Bool) → (b && leb w.value 255) ≡ true → w.value % 256 ≡ w.value
@@ -149,7 +147,6 @@ no_pairs : (m : ℕ) → None ≡ Some m → ⊥
 no_pairs m e = let z : ◌≡◌ {A = ℕ} 0 1 = cc in omega arith
 
 ended_pairs : (n m : ℕ) → ended n ≡ Some m → n ≡ m + m
-unfolding ended
 ended_pairs n m e = go (eqb (n % 2) 0) refl e
   where
     go : (b : Bool) → eqb (n % 2) 0 ≡ b → cond b (Some (n / 2)) None ≡ Some m → n ≡ m + m

@@ -1,5 +1,5 @@
 -- The lines of a session, one behind the other, are the whole listing of its input.
-use Rattle.std.specs.Prelude.{◌≡◌, Bool, true, false, cond, List, [], ◌++◌, ltb, length}
+use Rattle.std.specs.Prelude.{◌≡◌, Bool, true, false, cond, List, [], ◌++◌, ltb, length, Option, Some, None}
 use Rattle.std.proofs.Math.Path.{refl, ap}
 use Rattle.std.proofs.Common.{◌∙◌, append-nil, length-take}
 use Prim.Native.Nat.{ℕ, zero, suc, ◌+◌, ◌-◌, ◌%◌, ◌≤◌}
@@ -16,7 +16,7 @@ use Rattle.machine.specs.Public.{started, fresh_values}
 use Rattle.listing_input.specs.Input.{split_of, schedule_of, pair_at}
 use Rattle.listing_input.specs.Laws.Input.{walked, walk_exact, pairs_within}
 use Rattle.listing_lines.specs.Lines.{refused_line, bad_schedule_line, too_long_line}
-use Rattle.listing_session.specs.Kinds.{Translated, State, Schedule, Bad, Pairs, Answer, TooLong, BadSchedule, Runs, Session, Refused}
+use Rattle.listing_session.specs.Kinds.{Translated, State, Answer, TooLong, BadSchedule, Runs, Session, Refused}
 use Rattle.listing_answer.specs.Answer.{text_in, schedule_in, scheduled, answered_as, answered, image_after}
 use Rattle.listing_session.specs.Session.{begun_as, begun, line_count, state_line, turn_of, turned_line, run_line, run_session, run_change, line_of, session_of, change_of}
 use Rattle.listing_session.specs.Listing.{state_lines, run_lines, end_lines, schedule_listing, text_listing, listing}
@@ -77,10 +77,10 @@ module _ (input image : List ℕ) where
   unfolding started checked records_in
   bad_schedule = alone BadSchedule refl
 
-  by_schedule : length input ≤ input_limit → (n : ℕ) (given : Schedule) → schedule_of (schedule_in input) ≡ given → lines_of (scheduled n (split_of input).rest given) ≡ schedule_listing (take n image) (schedule_in input) given
+  by_schedule : length input ≤ input_limit → (n : ℕ) (given : Option ℕ) → schedule_of (schedule_in input) ≡ given → lines_of (scheduled n (split_of input).rest given) ≡ schedule_listing (take n image) (schedule_in input) given
   unfolding scheduled
-  by_schedule small n Bad e = bad_schedule
-  by_schedule small n (Pairs m) e =
+  by_schedule small n None e = bad_schedule
+  by_schedule small n (Some m) e =
       let s = (started (take n image)).state in
       let w = pairs_within (schedule_in input) m e in
       let l = length-drop (split_of input).rest input in

@@ -1,6 +1,6 @@
 -- What has been found is within what is expected.
 use Rattle.std.proofs.Common.{◌≤◌, length}
-use Rattle.listing_vectors.proofs.compare.Given as goal
+use Rattle.listing_vectors.proofs.first_difference.Given as goal
 
 abbrev pub invariant-loop-i : goal.invariant-loop-i
 invariant-loop-i l = l.at ≤ length l.expected
