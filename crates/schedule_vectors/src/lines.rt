@@ -147,6 +147,8 @@ pub(crate) fn next_told(text: &[u8], at: usize) -> usize
 pub(crate) fn line_behind(text: &[u8], from: usize) -> Line
     ensures ahead { from ≤ result.at }
     ensures tells { result.at < length text.now → (slice_index text.now result.at ≢ 10) × (slice_index text.now result.at ≢ 35) }
+    ensures word { result.at ≤ result.from }
+    ensures within { result.at ≤ length text.now → result.from ≤ length text.now }
     ensures end { result.to < length text.now → slice_index text.now result.to ≡ 10 }
 {
     let at = next_told(text, from);
@@ -177,7 +179,11 @@ pub(crate) fn line_due(text: &[u8], from: usize, key: &[u8]) -> Result<Line, Dif
     ensures other { IfErr result (λ d. (l : Line) × (d ≡ Unread l.at) × (from ≤ l.at) × (l.at ≤ length text.now → slice_range text.now l.at l.from ≢ key.now)) }
 {
     let line = line_behind(text, from);
-    held(line, part(text, line.at, line.from) == key)
+    if part(text, line.at, line.from) == key {
+        Ok(line)
+    } else {
+        Err(Difference::Unread(line.at))
+    }
 }
 
 // WHAT A LINE TELLS
@@ -204,7 +210,8 @@ fn digit_of(byte: u8) -> Option<u8>
 
 // The decimal number at a place, if a digit stands there and not too many.
 fn number_at(told: &[u8], at: usize) -> Option<Number>
-    ensures { IfSome result (λ n. at < n.next) }
+    ensures ahead { IfSome result (λ n. at < n.next) }
+    ensures within { IfSome result (λ n. n.next ≤ length told.now) }
 {
     let mut value: usize = 0;
     let mut next = at;

@@ -1,9 +1,6 @@
--- What has been read fits the room. The measure is the number of bytes that are left of the line.
-use Rattle.std.proofs.Common.{◌-◌, ◌≤◌, length}
+-- The measure is the number of bytes that are left of the line.
+use Rattle.std.proofs.Common.{◌-◌, length}
 use Rattle.schedule_vectors.proofs.lines.bytes_of.Given as goal
-
-abbrev pub invariant-loop-i : goal.invariant-loop-i
-invariant-loop-i l = l.count ≤ 16384
 
 abbrev pub decreases-loop-i : goal.decreases-loop-i
 decreases-loop-i l = length l.told - l.i
