@@ -8,13 +8,20 @@ ghost use Rattle.listing_answer.specs.Answer.{scheduled, answered, image_after};
 use listing_input::{read_schedule, split_at_run};
 use translate::{Translated, translate};
 
-// What an input comes to: one of the three lines that stand alone, or a run.
+// A run: how long its image is, how many pairs its schedule has, and where that begins in the input.
 #[derive(Clone, Copy)]
-pub enum Answer {
+pub struct Run {
+    pub length: usize,
+    pub pairs: u16,
+    pub from: usize,
+}
+
+// Why an input runs nothing: each is answered by one line that stands alone.
+#[derive(Clone, Copy)]
+pub enum Unlisted {
     TooLong,
     Refused(u8, u16), // number, place
     BadSchedule,
-    Runs(usize, u16, usize), // the image's length, the pairs, where the schedule begins
 }
 
 const INPUT_LIMIT: usize = 48000;
@@ -57,26 +64,29 @@ fn narrow(n: usize) -> u16
     (n % 65536) as u16
 }
 
-fn scheduled_as(length: usize, rest: usize, given: Option<usize>) -> Answer
-    ensures { result ≡ scheduled length rest given }
+#[tactic(auto, unfolding(crate::specs::Answer::scheduled))]
+fn scheduled_as(length: usize, from: usize, given: Option<usize>) -> Result<Run, Unlisted>
+    ensures { result ≡ scheduled length from given }
 {
-    match given {
-        None => Answer::BadSchedule,
-        Some(n) => Answer::Runs(length, narrow(n), rest),
-    }
+    let pairs = given.ok_or(Unlisted::BadSchedule)?;
+    Ok(Run {
+        length: length,
+        pairs: narrow(pairs),
+        from: from,
+    })
 }
 
-// What an input comes to. The image of an accepted text then stands at the buffer's start.
-pub fn answer_of(input: &[u8], image: &mut [u8]) -> Answer
+// What an input comes to: a run, or the line that stands alone. The image of an accepted text then stands at the buffer's start.
+pub fn answer_of(input: &[u8], image: &mut [u8]) -> Result<Run, Unlisted>
     ensures { (result ≡ answered input.now (length image.old)) × (image.new ≡ image_after input.now image.old) }
 {
     if INPUT_LIMIT < input.len() {
-        return Answer::TooLong;
+        return Err(Unlisted::TooLong);
     }
     let parts = split_at_run(input);
     let translated = translate(first(input, parts.text), image);
     match translated {
-        Translated::Refused(number, place) => Answer::Refused(number, narrow(place)),
+        Translated::Refused(number, place) => Err(Unlisted::Refused(number, narrow(place))),
         Translated::Image(n) => {
             let given = read_schedule(behind(input, parts.rest));
             scheduled_as(n, parts.rest, given)

@@ -8,6 +8,7 @@ pub use Rattle.machine_records.specs.declared.Change.{Change}
 pub use Rattle.machine_records.specs.declared.Change.TheVariants.{Keep}
 pub use Rattle.machine.specs.declared.Turned.{Turned}
 pub use Rattle.listing_input.specs.declared.Pair.{Pair}
-pub use Rattle.listing_answer.specs.declared.Answer.{Answer}
-pub use Rattle.listing_answer.specs.declared.Answer.TheVariants.{TooLong, Refused, BadSchedule, Runs}
+pub use Rattle.listing_answer.specs.declared.Run.{Run}
+pub use Rattle.listing_answer.specs.declared.Unlisted.{Unlisted}
+pub use Rattle.listing_answer.specs.declared.Unlisted.TheVariants.{TooLong, Refused, BadSchedule}
 pub use Rattle.listing_session.specs.declared.Session.{Session}

@@ -1,5 +1,5 @@
 -- A listing, line by line: document 01, 'A listing, whole', a line for each answer, turn, task and channel.
-use Rattle.std.specs.Prelude.{cond, List, ℕ, ◌+◌, ◌-◌, ◌%◌, ltb, length, take, drop}
+use Rattle.std.specs.Prelude.{cond, List, ℕ, ◌+◌, ◌-◌, ◌%◌, ltb, length, take, drop, Result, Ok, Err}
 use Rattle.meaning.specs.Events.{numbers}
 use Rattle.machine_records.specs.Records.{task_in, chan_in}
 use Rattle.machine_records.specs.Values.{Values, row_for}
@@ -7,25 +7,21 @@ use Rattle.machine_store.specs.Store.{records_of}
 use Rattle.machine.specs.Public.{started, turned}
 use Rattle.listing_input.specs.Input.{pair_at}
 use Rattle.listing_lines.specs.Lines.{refused_line, turn_line, task_line, chan_line, stamp_line, bad_schedule_line, too_long_line}
-use Rattle.listing_session.specs.Kinds.{Task, Chan, State, Change, Keep, Turned, Pair, Answer, TooLong, BadSchedule, Runs, Session, Refused}
+use Rattle.listing_session.specs.Kinds.{Task, Chan, State, Change, Keep, Turned, Pair, Run, Unlisted, TooLong, BadSchedule, Session, Refused}
 use Rattle.listing_answer.specs.Answer.{answered, image_after}
 
 -- BEGINNING
 
-abbrev pub image_length : Answer → ℕ
-image_length TooLong = 0
-image_length (Refused number place) = 0
-image_length BadSchedule = 0
-image_length (Runs n pairs from) = n
+abbrev pub image_length : Result Run Unlisted → ℕ
+image_length (Ok run) = run.length
+image_length (Err why) = 0
 
-abbrev pub pair_count : Answer → ℕ
-pair_count TooLong = 0
-pair_count (Refused number place) = 0
-pair_count BadSchedule = 0
-pair_count (Runs n pairs from) = pairs
+abbrev pub pair_count : Result Run Unlisted → ℕ
+pair_count (Ok run) = run.pairs
+pair_count (Err why) = 0
 
 -- The machine starts from the image; no image makes none, with no task and no channel.
-abbrev pub begun_as : List ℕ → Answer → Session
+abbrev pub begun_as : List ℕ → Result Run Unlisted → Session
 begun_as image a = record { answer = a; at = 0; state = (started (take (image_length a) image)).state }
 
 abbrev pub begun : List ℕ → List ℕ → Session
@@ -77,22 +73,22 @@ module _ (rest image : List ℕ) (s : Session) (b : Values) where
     unfoldable pub run_change : Change
     run_change = cond (ltb i pairs) turn_of.change Keep
 
+-- The line that stands alone where nothing runs.
+abbrev pub line_alone : Unlisted → List ℕ
+line_alone TooLong = too_long_line
+line_alone (Refused number place) = refused_line number place
+line_alone BadSchedule = bad_schedule_line
+
 -- Line i of a listing.
 module _ (input image : List ℕ) (i : ℕ) (s : Session) (b : Values) where
-  abbrev pub line_of : Answer → List ℕ
-  line_of TooLong = too_long_line
-  line_of (Refused number place) = refused_line number place
-  line_of BadSchedule = bad_schedule_line
-  line_of (Runs n pairs from) = run_line (drop from input) (take n image) s b pairs i
+  abbrev pub line_of : Result Run Unlisted → List ℕ
+  line_of (Ok run) = run_line (drop run.from input) (take run.length image) s b run.pairs i
+  line_of (Err why) = line_alone why
 
-  abbrev pub session_of : Answer → Session
-  session_of TooLong = s
-  session_of (Refused number place) = s
-  session_of BadSchedule = s
-  session_of (Runs n pairs from) = run_session (drop from input) (take n image) s b pairs i
+  abbrev pub session_of : Result Run Unlisted → Session
+  session_of (Ok run) = run_session (drop run.from input) (take run.length image) s b run.pairs i
+  session_of (Err why) = s
 
-  abbrev pub change_of : Answer → Change
-  change_of TooLong = Keep
-  change_of (Refused number place) = Keep
-  change_of BadSchedule = Keep
-  change_of (Runs n pairs from) = run_change (drop from input) (take n image) s b pairs i
+  abbrev pub change_of : Result Run Unlisted → Change
+  change_of (Ok run) = run_change (drop run.from input) (take run.length image) s b run.pairs i
+  change_of (Err why) = Keep

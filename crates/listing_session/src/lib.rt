@@ -8,9 +8,9 @@ ghost use Rattle.std.specs.Prelude.{◌≡◌};
 ghost use Rattle.listing_session.specs.Kinds.{Keep};
 ghost use Rattle.listing_lines.specs.Lines.{Shows};
 ghost use Rattle.listing_answer.specs.Answer.{image_after};
-ghost use Rattle.listing_session.specs.Session.{image_length, pair_count, begun_as, begun, line_count, state_line, turn_of, turned_line, turned_session, run_line, run_session, run_change, line_of, session_of, change_of};
+ghost use Rattle.listing_session.specs.Session.{image_length, pair_count, begun_as, begun, line_count, state_line, turn_of, turned_line, turned_session, run_line, run_session, run_change, line_alone, line_of, session_of, change_of};
 
-use listing_answer::{Answer, answer_of, behind, first};
+use listing_answer::{Run, Unlisted, answer_of, behind, first};
 use listing_input::pair_at;
 use listing_lines::{
     Line, bad_schedule_line, chan_line, refused_line, stamp_line, task_line, too_long_line,
@@ -26,7 +26,7 @@ use meaning::{Chan, Task};
 // it.
 #[derive(Clone, Copy)]
 pub struct Session {
-    pub answer: Answer,
+    pub answer: Result<Run, Unlisted>,
     pub at: usize,
     pub state: State,
 }
@@ -41,29 +41,25 @@ pub struct Listed {
 
 // BEGINNING
 
-fn image_length(a: Answer) -> usize
+fn image_length(a: Result<Run, Unlisted>) -> usize
     ensures { result ≡ image_length a }
 {
     match a {
-        Answer::TooLong => 0,
-        Answer::Refused(_, _) => 0,
-        Answer::BadSchedule => 0,
-        Answer::Runs(n, _, _) => n,
+        Ok(run) => run.length,
+        Err(_) => 0,
     }
 }
 
-fn pair_count(a: Answer) -> u16
+fn pair_count(a: Result<Run, Unlisted>) -> u16
     ensures { result ≡ pair_count a }
 {
     match a {
-        Answer::TooLong => 0,
-        Answer::Refused(_, _) => 0,
-        Answer::BadSchedule => 0,
-        Answer::Runs(_, n, _) => n,
+        Ok(run) => run.pairs,
+        Err(_) => 0,
     }
 }
 
-fn begin_as(image: &[u8], a: Answer) -> Session
+fn begin_as(image: &[u8], a: Result<Run, Unlisted>) -> Session
     ensures { result ≡ begun_as image.now a }
 {
     let started = start(first(image, image_length(a)));
@@ -120,6 +116,17 @@ fn state_line(i: u32, s: State, values: [[u16; CELLS as usize]; CHANS as usize])
         return chan_line(chan, x, held);
     }
     stamp_line(stamp_in(&words, &cells), fault_in(&words, &cells))
+}
+
+// The line that stands alone where nothing runs.
+fn line_alone(why: Unlisted) -> Line
+    ensures { Shows result (line_alone why) }
+{
+    match why {
+        Unlisted::TooLong => too_long_line(),
+        Unlisted::Refused(number, place) => refused_line(number, place),
+        Unlisted::BadSchedule => bad_schedule_line(),
+    }
 }
 
 fn quiet(line: Line, s: Session) -> Listed
@@ -191,13 +198,11 @@ pub fn next(
 ) -> Listed
     ensures { (result.session ≡ session_of input.now image.now i s values s.answer) × (result.change ≡ change_of input.now image.now i s values s.answer) × Shows result.line (line_of input.now image.now i s values s.answer) }
 {
-    let a = s.answer;
-    match a {
-        Answer::TooLong => quiet(too_long_line(), s),
-        Answer::Refused(number, place) => quiet(refused_line(number, place), s),
-        Answer::BadSchedule => quiet(bad_schedule_line(), s),
-        Answer::Runs(n, pairs, from) => {
-            run_listed(behind(input, from), first(image, n), pairs, i, s, values)
+    match s.answer {
+        Ok(run) => {
+            let image_part = first(image, run.length);
+            run_listed(behind(input, run.from), image_part, run.pairs, i, s, values)
         }
+        Err(why) => quiet(line_alone(why), s),
     }
 }

@@ -1,5 +1,5 @@
 -- The lines of a session, one behind the other, are the whole listing of its input.
-use Rattle.std.specs.Prelude.{◌≡◌, Bool, true, false, cond, List, [], ◌++◌, ltb, length, Option, Some, None}
+use Rattle.std.specs.Prelude.{◌≡◌, Bool, true, false, cond, List, [], ◌++◌, ltb, length, Option, Some, None, Result, Ok, Err}
 use Rattle.std.proofs.Math.Path.{refl, ap}
 use Rattle.std.proofs.Common.{◌∙◌, append-nil, length-take}
 use Prim.Native.Nat.{ℕ, zero, suc, ◌+◌, ◌-◌, ◌%◌, ◌≤◌}
@@ -16,7 +16,7 @@ use Rattle.machine.specs.Public.{started, fresh_values}
 use Rattle.listing_input.specs.Input.{split_of, schedule_of, pair_at}
 use Rattle.listing_input.specs.Laws.Input.{walked, walk_exact, pairs_within}
 use Rattle.listing_lines.specs.Lines.{refused_line, bad_schedule_line, too_long_line}
-use Rattle.listing_session.specs.Kinds.{Translated, State, Answer, TooLong, BadSchedule, Runs, Session, Refused}
+use Rattle.listing_session.specs.Kinds.{Translated, State, Run, Unlisted, TooLong, BadSchedule, Session, Refused}
 use Rattle.listing_answer.specs.Answer.{text_in, schedule_in, scheduled, answered_as, answered, image_after}
 use Rattle.listing_session.specs.Session.{begun_as, begun, line_count, state_line, turn_of, turned_line, run_line, run_session, run_change, line_of, session_of, change_of}
 use Rattle.listing_session.specs.Listing.{state_lines, run_lines, end_lines, schedule_listing, text_listing, listing}
@@ -32,7 +32,7 @@ module _ (input image : List ℕ) where
 
   module _ (n pairs from : ℕ) where
     abbrev running : ℕ → State → Session
-    running at s = record { answer = Runs n pairs from; at = at; state = s }
+    running at s = record { answer = Ok (record { length = n; pairs = pairs; from = from }); at = at; state = s }
 
     -- Behind the turns the session stays as it is.
     ends_listed : (k i j at : ℕ) (s : State) (b : Values) → i ≡ pairs + j → lines_from k i (running at s) b ≡ state_lines k j s b
@@ -57,25 +57,25 @@ module _ (input image : List ℕ) where
 -- THE THEOREM
 
 module _ (input image : List ℕ) where
-  abbrev lines_of : Answer → List ℕ
+  abbrev lines_of : Result Run Unlisted → List ℕ
   lines_of a = lines_from input image (line_count (begun_as image a)) 0 (begun_as image a) fresh_values
 
   -- Where nothing runs there is no task and no channel, and so one line.
-  alone : (a : Answer) → line_count (begun_as image a) ≡ 1 → lines_of a ≡ line_of input image 0 (begun_as image a) fresh_values a
+  alone : (a : Result Run Unlisted) → line_count (begun_as image a) ≡ 1 → lines_of a ≡ line_of input image 0 (begun_as image a) fresh_values a
   unfolding lines_from
   alone a e = rw e (append-nil _)
 
-  too_long : lines_of TooLong ≡ too_long_line
+  too_long : lines_of (Err TooLong) ≡ too_long_line
   unfolding started checked records_in
-  too_long = alone TooLong refl
+  too_long = alone (Err TooLong) refl
 
-  refused : (number place : ℕ) → lines_of (Refused number place) ≡ refused_line number place
+  refused : (number place : ℕ) → lines_of (Err (Refused number place)) ≡ refused_line number place
   unfolding started checked records_in
-  refused number place = alone (Refused number place) refl
+  refused number place = alone (Err (Refused number place)) refl
 
-  bad_schedule : lines_of BadSchedule ≡ bad_schedule_line
+  bad_schedule : lines_of (Err BadSchedule) ≡ bad_schedule_line
   unfolding started checked records_in
-  bad_schedule = alone BadSchedule refl
+  bad_schedule = alone (Err BadSchedule) refl
 
   by_schedule : length input ≤ input_limit → (n : ℕ) (given : Option ℕ) → schedule_of (schedule_in input) ≡ given → lines_of (scheduled n (split_of input).rest given) ≡ schedule_listing (take n image) (schedule_in input) given
   unfolding scheduled
@@ -104,6 +104,6 @@ listed_whole input out = go (ltb input_limit (length input)) refl
     r : Translated
     r = translated (text_in input) (length out)
 
-    go : (b : Bool) → ltb input_limit (length input) ≡ b → lines_of input (cond b out (written (text_in input) out)) (cond b TooLong (answered_as input r)) ≡ cond b too_long_line (text_listing input out r)
+    go : (b : Bool) → ltb input_limit (length input) ≡ b → lines_of input (cond b out (written (text_in input) out)) (cond b (Err TooLong) (answered_as input r)) ≡ cond b too_long_line (text_listing input out r)
     go true e = too_long input out
     go false e = by_text input out (ltb-false input_limit (length input) e) r refl
