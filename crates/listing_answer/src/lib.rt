@@ -38,21 +38,14 @@ pub const IMAGE_ROOM: usize = 8248;
 pub fn first(s: &[u8], n: usize) -> &[u8]
     ensures { result.now ≡ take n s.now }
 {
-    if s.len() < n {
-        return s;
-    }
-    &s[..n]
+    &s[..n.min(s.len())]
 }
 
 // What stands from place n on: nothing of a slice that is shorter.
 pub fn behind(s: &[u8], n: usize) -> &[u8]
     ensures { result.now ≡ drop n s.now }
 {
-    let end = s.len();
-    if end < n {
-        return &s[end..];
-    }
-    &s[n..]
+    &s[n.min(s.len())..]
 }
 
 // THE ANSWER
@@ -77,6 +70,7 @@ fn scheduled_as(length: usize, from: usize, given: Option<usize>) -> Result<Run,
 }
 
 // What an input comes to: a run, or the line that stands alone. The image of an accepted text then stands at the buffer's start.
+#[tactic(auto, unfolding(crate::specs::Answer::answered, crate::specs::Answer::image_after))]
 pub fn answer_of(input: &[u8], image: &mut [u8]) -> Result<Run, Unlisted>
     ensures { (result ≡ answered input.now (length image.old)) × (image.new ≡ image_after input.now image.old) }
 {

@@ -38,6 +38,7 @@ fn begins_run(text: &[u8], begins: bool) -> bool
 
 // `begins` says that a line begins at place i. The schedule stands behind the line `run` and its newline, which may lack at the input's
 // end.
+#[tactic(auto, using(crate::specs::Laws::Input::text_more, crate::specs::Laws::Input::text_stop, crate::specs::Laws::Input::text_end), unfolding(crate::specs::Input::split_of))]
 pub fn split_at_run(input: &[u8]) -> Split
     ensures { result ≡ split_of input.now }
 {
@@ -73,6 +74,7 @@ fn ended_at(n: usize) -> Option<usize>
 
 // How many pairs a schedule has; none where it is bad or odd.
 // Kept, point 3: the walk goes from word to word, so no counted range has its places.
+#[tactic(auto, using(crate::specs::Laws::Input::word_ends, crate::specs::Laws::Input::judged_end, crate::specs::Laws::Input::judged_more, crate::specs::Laws::Input::judged_bad), unfolding(crate::specs::Input::schedule_of, crate::specs::Input::words_of))]
 pub fn read_schedule(rest: &[u8]) -> Option<usize>
     ensures { result ≡ schedule_of rest.now }
 {
@@ -92,6 +94,7 @@ pub fn read_schedule(rest: &[u8]) -> Option<usize>
 }
 
 // The two numbers from `at` on. In a schedule that is not bad each is a byte and the remainder changes nothing.
+#[tactic(auto, unfolding(crate::specs::Input::pair_at))]
 pub fn pair_at(rest: &[u8], at: usize) -> Pair
     ensures { result ≡ pair_at rest.now at }
 {

@@ -1,8 +1,8 @@
-use Rattle.std.proofs.Common.{◌≡◌, ℕ, true, sym, ◌∙◌, min, ◌+◌, ◌-◌, arith, length}
+use Rattle.std.proofs.Common.{◌≡◌, ℕ, sym, ◌∙◌, ◌-◌, length}
 use Rattle.std.proofs.Math.Seq.{take-length}
 use Rattle.std.proofs.Common.{length-drop, take, drop, List}
-use Rattle.listing_input.specs.Input.{text_length, split_of}
-use Rattle.listing_input.specs.Laws.Input.{text_more, text_stop, text_end}
+use Rattle.listing_input.specs.Input.{split_of}
+use Rattle.listing_input.specs.Laws.Input.{text_more, text_stop}
 use Rattle.listing_input.proofs.split_at_run.Goals as goal
 
 -- A slice from a place on is all that stands behind it.
@@ -22,14 +22,3 @@ loop-i-preserved c =
     let a = c.args in
     let l = c.loop-i in
     text_more a.input.now l.begins l.i c.loop-i-test.true (rw (to_the_end a.input.now l.i) at (sym c.begins_run.ensures ∙ c.if-begins_run.false)) ∙ l.invariant
-
-pub returns : goal.returns
-unfolding split_of
-returns c =
-    let a = c.args in
-    let l = c.loop-i in
-    let e = text_end a.input.now l.begins l.i c.loop-i-test.false ∙ l.invariant in
-    let n : ℕ = length a.input.now in
-    let z : text_length true a.input.now ≡ n = omega arith in
-    let q : min n (n + 4) ≡ n = omega arith in
-    rw (z, q)
