@@ -8,6 +8,7 @@ use image_rows::bytes::two_of;
 use meaning::Row;
 use meaning::sizes::ROW_SIZE;
 
+#[tactic(auto, unfolding(meaning::specs::Bytes::fields_of_row))]
 pub(crate) fn op_of(body: &[u8], r: Row) -> u8
     requires { row_size * r.0 + row_size ≤ length body.now }
     ensures { result ≡ (fields_of_row body.now r).op }
@@ -16,6 +17,7 @@ pub(crate) fn op_of(body: &[u8], r: Row) -> u8
     body[at]
 }
 
+#[tactic(auto, unfolding(meaning::specs::Bytes::fields_of_row))]
 pub(crate) fn chan_of(body: &[u8], r: Row) -> u8
     requires { row_size * r.0 + row_size ≤ length body.now }
     ensures { result ≡ (fields_of_row body.now r).chan }
@@ -24,6 +26,7 @@ pub(crate) fn chan_of(body: &[u8], r: Row) -> u8
     body[at + 1]
 }
 
+#[tactic(auto, unfolding(meaning::specs::Bytes::fields_of_row))]
 pub(crate) fn arg_of(body: &[u8], r: Row) -> u16
     requires { row_size * r.0 + row_size ≤ length body.now }
     ensures { result ≡ (fields_of_row body.now r).arg }
@@ -32,6 +35,7 @@ pub(crate) fn arg_of(body: &[u8], r: Row) -> u16
     two_of(body[at + 2], body[at + 3])
 }
 
+#[tactic(auto, unfolding(meaning::specs::Bytes::fields_of_row))]
 pub(crate) fn next_of(body: &[u8], r: Row) -> u16
     requires { row_size * r.0 + row_size ≤ length body.now }
     ensures { result ≡ (fields_of_row body.now r).next }
@@ -40,6 +44,7 @@ pub(crate) fn next_of(body: &[u8], r: Row) -> u16
     two_of(body[at + 4], body[at + 5])
 }
 
+#[tactic(auto, unfolding(meaning::specs::Bytes::fields_of_row))]
 pub(crate) fn other_of(body: &[u8], r: Row) -> u16
     requires { row_size * r.0 + row_size ≤ length body.now }
     ensures { result ≡ (fields_of_row body.now r).other }
@@ -49,10 +54,10 @@ pub(crate) fn other_of(body: &[u8], r: Row) -> u16
 }
 
 // "case rows (ops 9 to 11)"
+#[tactic(auto, unfolding(crate::specs::Row::is_case_row))]
 pub(crate) fn is_case_row(body: &[u8], r: Row) -> bool
     requires { row_size * r.0 + row_size ≤ length body.now }
     ensures { result ≡ is_case_row body.now r }
 {
-    let op = op_of(body, r);
-    if 9 <= op { op <= 11 } else { false }
+    matches!(op_of(body, r), 9..=11)
 }

@@ -19,6 +19,7 @@ use table::row_good;
 const SELECT: u8 = 8;
 
 // Whether a target is a row and no case row. A row that the slice does not hold has op 0 and is no case row.
+#[tactic(auto, unfolding(crate::specs::Row::is_target, crate::specs::Row::is_case_row), using(crate::proofs::Laws::cut_row))]
 pub fn is_target(body: &[u8], rows: u16, r: Row) -> bool
     ensures { result ≡ is_target body.now rows r }
 {
@@ -34,6 +35,7 @@ pub fn is_target(body: &[u8], rows: u16, r: Row) -> bool
 
 // How many of a select's case rows are still to come behind row i, where so many were ahead of it. Behind a row that the slice does
 // not hold there are none.
+#[tactic(auto, unfolding(crate::specs::Row::is_case_row), using(crate::proofs::Laws::cut_row, crate::specs::Laws::Table::owed_behind_lem))]
 pub fn owed_behind(body: &[u8], i: Row, owed: u8) -> u8
     ensures { result ≡ owed_after owed (statement_of (fields_of_row body.now i)) }
 {
@@ -44,7 +46,7 @@ pub fn owed_behind(body: &[u8], i: Row, owed: u8) -> u8
         return chan_of(body, i);
     }
     if is_case_row(body, i) {
-        if 0 < owed { owed - 1 } else { 0 }
+        owed.saturating_sub(1)
     } else {
         0
     }
@@ -52,6 +54,7 @@ pub fn owed_behind(body: &[u8], i: Row, owed: u8) -> u8
 
 // Whether row i of so many passes: the slice holds every row, this is one of them, and it is good, where so many of a select's case
 // rows were still to come ahead of it.
+#[tactic(auto, unfolding(crate::specs::Row::row_passes))]
 pub fn row_passes(body: &[u8], rows: u16, channels: u8, i: Row, owed: u8) -> bool
     ensures { result ≡ row_passes body.now rows channels i owed }
 {

@@ -15,18 +15,15 @@ fn targets_good(body: &[u8], rows: u16, i: Row) -> bool
     requires { (i.0 < rows) × (row_size * rows ≤ length body.now) }
     ensures { result ≡ targets_good body.now rows (fields_of_row body.now i) }
 {
-    if is_target(body, rows, Row(next_of(body, i))) {
-        is_target(body, rows, Row(other_of(body, i)))
-    } else {
-        false
-    }
+    is_target(body, rows, Row(next_of(body, i))) && is_target(body, rows, Row(other_of(body, i)))
 }
 
 // Nil or a declared channel.
+#[tactic(auto, unfolding(crate::specs::Row::port_good))]
 fn port_good(channels: u8, chan: u8) -> bool
     ensures { result ≡ port_good channels (port_of chan) }
 {
-    if chan == NIL { true } else { chan < channels }
+    chan == NIL || chan < channels
 }
 
 // Send, alone or in a case: chan; arg = V; next.
@@ -34,14 +31,9 @@ fn send_good(body: &[u8], rows: u16, channels: u8, i: Row) -> bool
     requires { (i.0 < rows) × (row_size * rows ≤ length body.now) }
     ensures { result ≡ send_good body.now rows channels (fields_of_row body.now i) }
 {
-    if other_of(body, i) != 0 {
-        return false;
-    }
-    if port_good(channels, chan_of(body, i)) {
-        is_target(body, rows, Row(next_of(body, i)))
-    } else {
-        false
-    }
+    other_of(body, i) == 0
+        && port_good(channels, chan_of(body, i))
+        && is_target(body, rows, Row(next_of(body, i)))
 }
 
 // Forward and recv, alone or in a case, and close: chan; next.
@@ -49,10 +41,7 @@ fn forward_good(body: &[u8], rows: u16, channels: u8, i: Row) -> bool
     requires { (i.0 < rows) × (row_size * rows ≤ length body.now) }
     ensures { result ≡ forward_good body.now rows channels (fields_of_row body.now i) }
 {
-    if arg_of(body, i) != 0 {
-        return false;
-    }
-    send_good(body, rows, channels, i)
+    arg_of(body, i) == 0 && send_good(body, rows, channels, i)
 }
 
 // Range: chan; next body, other after.
@@ -60,14 +49,7 @@ fn range_good(body: &[u8], rows: u16, channels: u8, i: Row) -> bool
     requires { (i.0 < rows) × (row_size * rows ≤ length body.now) }
     ensures { result ≡ range_good body.now rows channels (fields_of_row body.now i) }
 {
-    if arg_of(body, i) != 0 {
-        return false;
-    }
-    if port_good(channels, chan_of(body, i)) {
-        targets_good(body, rows, i)
-    } else {
-        false
-    }
+    arg_of(body, i) == 0 && port_good(channels, chan_of(body, i)) && targets_good(body, rows, i)
 }
 
 // Repeat: chan = depth, 0 to 5; arg N, 0 to 255; next body, other after.
@@ -75,13 +57,7 @@ fn repeat_good(body: &[u8], rows: u16, i: Row) -> bool
     requires { (i.0 < rows) × (row_size * rows ≤ length body.now) }
     ensures { result ≡ repeat_good body.now rows (fields_of_row body.now i) }
 {
-    if DEPTH <= chan_of(body, i) {
-        return false;
-    }
-    if LAPS < arg_of(body, i) {
-        return false;
-    }
-    targets_good(body, rows, i)
+    chan_of(body, i) < DEPTH && arg_of(body, i) <= LAPS && targets_good(body, rows, i)
 }
 
 // Ifok: next first body, other second body.
@@ -89,30 +65,18 @@ fn ifok_good(body: &[u8], rows: u16, i: Row) -> bool
     requires { (i.0 < rows) × (row_size * rows ≤ length body.now) }
     ensures { result ≡ ifok_good body.now rows (fields_of_row body.now i) }
 {
-    if chan_of(body, i) != 0 {
-        return false;
-    }
-    if arg_of(body, i) != 0 {
-        return false;
-    }
-    targets_good(body, rows, i)
+    chan_of(body, i) == 0 && arg_of(body, i) == 0 && targets_good(body, rows, i)
 }
 
 // Whether the k rows behind row i are case rows.
+#[tactic(auto, unfolding(crate::specs::Row::cases_follow), using(crate::proofs::Laws::follow_step))]
 fn cases_follow(body: &[u8], rows: u16, i: Row, k: u8) -> bool
     requires { (i.0 < rows) × (row_size * rows ≤ length body.now) }
     ensures { result ≡ cases_follow body.now rows k (suc i.0) }
 {
-    let mut at = i.0 + 1;
-    let mut left = k;
-    while 0 < left {
-        if rows <= at {
-            return false;
-        }
-        if is_case_row(body, Row(at)) {
-            at = at + 1;
-            left = left - 1;
-        } else {
+    for n in 0..k {
+        let at = i.0 + 1 + u16::from(n);
+        if rows <= at || !is_case_row(body, Row(at)) {
             return false;
         }
     }
@@ -124,12 +88,12 @@ fn default_good(body: &[u8], rows: u16, i: Row) -> bool
     requires { (i.0 < rows) × (row_size * rows ≤ length body.now) }
     ensures { result ≡ default_good body.now rows (fields_of_row body.now i) }
 {
-    let arg = arg_of(body, i);
     let next = next_of(body, i);
-    if arg == 1 {
-        return is_target(body, rows, Row(next));
+    match arg_of(body, i) {
+        0 => next == 0,
+        1 => is_target(body, rows, Row(next)),
+        _ => false,
     }
-    if arg == 0 { next == 0 } else { false }
 }
 
 // Select: chan = number of cases, 0 to 8, which follow at once; arg and next its default.
@@ -137,18 +101,11 @@ fn select_good(body: &[u8], rows: u16, i: Row) -> bool
     requires { (i.0 < rows) × (row_size * rows ≤ length body.now) }
     ensures { result ≡ select_good body.now rows i.0 (fields_of_row body.now i) }
 {
-    if other_of(body, i) != 0 {
-        return false;
-    }
     let k = chan_of(body, i);
-    if CASES < k {
-        return false;
-    }
-    if default_good(body, rows, i) {
-        cases_follow(body, rows, i, k)
-    } else {
-        false
-    }
+    other_of(body, i) == 0
+        && k <= CASES
+        && default_good(body, rows, i)
+        && cases_follow(body, rows, i, k)
 }
 
 // Stop: no field.
@@ -156,45 +113,24 @@ fn stop_good(body: &[u8], i: Row) -> bool
     requires { row_size * i.0 + row_size ≤ length body.now }
     ensures { result ≡ stop_good (fields_of_row body.now i) }
 {
-    if chan_of(body, i) != 0 {
-        return false;
-    }
-    if arg_of(body, i) != 0 {
-        return false;
-    }
-    if next_of(body, i) != 0 {
-        return false;
-    }
-    other_of(body, i) == 0
+    chan_of(body, i) == 0 && arg_of(body, i) == 0 && next_of(body, i) == 0 && other_of(body, i) == 0
 }
 
 // Whether row i is good, where so many of a select's case rows were still to come ahead of it: the line of its op.
+#[tactic(auto, using(crate::specs::Laws::Table::send_row, crate::specs::Laws::Table::forward_row, crate::specs::Laws::Table::range_row, crate::specs::Laws::Table::repeat_row, crate::specs::Laws::Table::ifok_row, crate::specs::Laws::Table::select_row, crate::specs::Laws::Table::case_send_row, crate::specs::Laws::Table::case_forward_row, crate::specs::Laws::Table::stop_row_lem, crate::specs::Laws::Table::zero_row, crate::specs::Laws::Table::past_row))]
 pub(crate) fn row_good(body: &[u8], rows: u16, channels: u8, i: Row, owed: u8) -> bool
     requires { (i.0 < rows) × (row_size * rows ≤ length body.now) }
     ensures { result ≡ row_good body.now rows channels i.0 owed (fields_of_row body.now i) }
 {
-    let op = op_of(body, i);
-    match op {
+    match op_of(body, i) {
         1 => send_good(body, rows, channels, i),
         2 | 3 | 4 => forward_good(body, rows, channels, i),
         5 => range_good(body, rows, channels, i),
         6 => repeat_good(body, rows, i),
         7 => ifok_good(body, rows, i),
         8 => select_good(body, rows, i),
-        9 => {
-            if 0 < owed {
-                send_good(body, rows, channels, i)
-            } else {
-                false
-            }
-        }
-        10 | 11 => {
-            if 0 < owed {
-                forward_good(body, rows, channels, i)
-            } else {
-                false
-            }
-        }
+        9 => 0 < owed && send_good(body, rows, channels, i),
+        10 | 11 => 0 < owed && forward_good(body, rows, channels, i),
         12 => stop_good(body, i),
         _ => false,
     }

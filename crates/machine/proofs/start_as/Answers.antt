@@ -1,10 +1,10 @@
 use Rattle.machine.proofs.start_as.Goals as goal
 
 pub fresh-state-requires : goal.fresh-state-requires
-fresh-state-requires c = c.requires c.in-Good.is
+fresh-state-requires c = c.requires c.in-Ok.is
 
-pub returns-in-Good : goal.returns-in-Good
-returns-in-Good c = rw (c.in-Good.is, c.fresh-state.ensures)
+pub returns-in-Ok : goal.returns-in-Ok
+returns-in-Ok c = rw (c.in-Ok.is, c.fresh-state.ensures)
 
-pub returns-in-Refused : goal.returns-in-Refused
-returns-in-Refused c = rw c.in-Refused.is
+pub returns-in-Err : goal.returns-in-Err
+returns-in-Err c = rw c.in-Err.is
