@@ -64,6 +64,7 @@ fn run_in(
 }
 
 // The answer of a call, decided ahead of the first turn: the image check's own number, 17, 30, 31, or the bytes that its records take.
+#[tactic(auto, unfolding(machine_turns::specs::Schedule::outcome, image_rows::specs::Rows::counts_of))]
 fn decide(
     image: &[u8],
     words: &[u16; STATE_WORDS],

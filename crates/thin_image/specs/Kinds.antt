@@ -6,7 +6,4 @@ pub use Rattle.image_rows.specs.declared.Counts.{Counts}
 pub use Rattle.image_check.specs.declared.ImageFault.{ImageFault}
 pub use Rattle.thin_held.specs.declared.Held.{Held}
 pub use Rattle.thin_image.specs.declared.Opened.{Opened}
-pub use Rattle.thin_held.specs.declared.RowAnswer.{RowAnswer}
-pub use Rattle.thin_held.specs.declared.CapacityAnswer.{CapacityAnswer}
-pub use Rattle.thin_held.specs.declared.FirstRowAnswer.{FirstRowAnswer}
 pub use Rattle.thin_image.specs.declared.Answers.{Answers}
