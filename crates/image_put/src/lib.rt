@@ -56,6 +56,7 @@ fn select_fields(cases: u8, e: Otherwise) -> Fields
 }
 
 // The fields that the table writes for a statement.
+// Kept, point 4: a From<Statement> would have to stand in crate meaning, whose both kinds are, below the crates that read and write rows.
 #[tactic(auto, unfolding(meaning::specs::Bytes::fields_of, crate::specs::Fields::op_fields))]
 pub fn fields_of(s: Statement) -> Fields
     ensures { result ≡ fields_of s }

@@ -10,10 +10,10 @@ ghost use Rattle.image_row.specs.Row.{is_target, owed_after, row_passes};
 mod fields;
 mod table;
 
-use fields::{chan_of, is_case_row, op_of};
+use fields::Held;
 use meaning::Row;
 use meaning::sizes::ROW_SIZE;
-use table::row_good;
+use table::Judged;
 
 // The op of a select.
 const SELECT: u8 = 8;
@@ -27,7 +27,7 @@ pub fn is_target(body: &[u8], rows: u16, r: Row) -> bool
         return false;
     }
     if ROW_SIZE * (r.0 as usize) + ROW_SIZE <= body.len() {
-        !is_case_row(body, r)
+        !Held { body, at: r }.is_case()
     } else {
         true
     }
@@ -42,10 +42,11 @@ pub fn owed_behind(body: &[u8], i: Row, owed: u8) -> u8
     if body.len() < ROW_SIZE * (i.0 as usize) + ROW_SIZE {
         return 0;
     }
-    if op_of(body, i) == SELECT {
-        return chan_of(body, i);
+    let row = Held { body, at: i };
+    if row.op() == SELECT {
+        return row.chan();
     }
-    if is_case_row(body, i) {
+    if row.is_case() {
         owed.saturating_sub(1)
     } else {
         0
@@ -64,5 +65,10 @@ pub fn row_passes(body: &[u8], rows: u16, channels: u8, i: Row, owed: u8) -> boo
     if rows <= i.0 {
         return false;
     }
-    row_good(body, rows, channels, i, owed)
+    let row = Judged {
+        row: Held { body, at: i },
+        rows,
+        channels,
+    };
+    row.good(owed)
 }

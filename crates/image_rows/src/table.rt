@@ -53,6 +53,7 @@ pub fn fields_of_row(body: &[u8], r: Row) -> Fields
 }
 
 // The statement that five fields read as.
+// Kept, point 4: a From<Fields> would have to stand in crate meaning, whose both kinds are, below the crates that read and write rows.
 #[tactic(auto, unfolding(meaning::specs::Bytes::statement_of), using(crate::proofs::Laws::past_the_table))]
 pub fn statement_of(f: Fields) -> Statement
     ensures { result ≡ statement_of f }

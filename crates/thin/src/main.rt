@@ -56,8 +56,8 @@ fn say_capacity(rt: &impl Print, c: u8, a: Option<u8>) -> io::Result<()> {
 
 fn say_first_row(rt: &impl Print, t: u8, a: Option<Row>) -> io::Result<()> {
     match a {
-        FirstSome(r) => println!(rt; "first {t} {}", r.0),
-        FirstNone => println!(rt; "first {t} no"),
+        Some(r) => println!(rt; "first {t} {}", r.0),
+        None => println!(rt; "first {t} no"),
     }
 }
 

@@ -74,8 +74,7 @@ pub fn first_row_asked(image: &[u8], h: Held, t: Task) -> Option<Row>
 {
     let k = h.counts;
     if t.0 < k.tasks {
-        let found = first_row_in(body_of(image), k.rows, k.channels, t);
-        return FirstSome(found);
+        return Some(first_row_in(body_of(image), k.rows, k.channels, t));
     }
     None
 }
