@@ -4,6 +4,7 @@
 #![tactic(auto)]
 
 ghost use Rattle.std.specs.Prelude.{◌≡◌};
+ghost use Rattle.meaning.specs.Bytes.{port_of};
 ghost use Rattle.meaning.specs.Events.{port_number};
 
 pub mod sizes;
@@ -12,17 +13,17 @@ use sizes::NIL;
 
 // Document 01, 'Step image': a task number and a channel number both run from 0 to 15 and are kept apart by kind; so is
 // the number of a row.
-#[derive(Clone, Copy)]
+#[derive(Clone, Copy, PartialEq, Eq)]
 pub struct Task(pub u8);
 
-#[derive(Clone, Copy)]
+#[derive(Clone, Copy, PartialEq, Eq)]
 pub struct Chan(pub u8);
 
-#[derive(Clone, Copy)]
+#[derive(Clone, Copy, PartialEq, Eq)]
 pub struct Row(pub u16);
 
 // A channel, or nil.
-#[derive(Clone, Copy)]
+#[derive(Clone, Copy, PartialEq, Eq)]
 pub enum Port {
     Nil,
     On(Chan),
@@ -102,11 +103,26 @@ pub struct EventNumbers {
 }
 
 // A channel's number, 255 for nil: in a row and in an event alike.
-pub fn port_number(p: Port) -> u8
-    ensures { result ≡ port_number p }
-{
-    match p {
-        Port::Nil => NIL,
-        Port::On(c) => c.0,
+impl From<Port> for u8 {
+    ghost from_gives = { λ port n. n ≡ port_number port };
+
+    fn from(port: Port) -> u8 {
+        match port {
+            Port::Nil => NIL,
+            Port::On(c) => c.0,
+        }
+    }
+}
+
+// The port that a channel byte names; 255 is nil.
+impl From<u8> for Port {
+    ghost from_gives = { λ n port. port ≡ port_of n };
+
+    fn from(n: u8) -> Port {
+        if n == NIL {
+            Port::Nil
+        } else {
+            Port::On(Chan(n))
+        }
     }
 }

@@ -6,7 +6,6 @@ use crate::lines::{
     Difference, Line, bytes_of, held, line_behind, line_due, next_told, told, two_numbers,
 };
 use crate::record::{RECORD_SIZE, state_of, values_of};
-use image_check::Checked;
 use machine::{fresh_values, start};
 use machine_schedule::schedule;
 use machine_store::{CHAN_COUNT, State, TASK_COUNT};
@@ -168,7 +167,7 @@ fn due_of(
 
 // Whether there is a machine to make turns: one is given, or the image starts one.
 fn has_machine(image: &[u8], given: &Option<Given>) -> bool {
-    given.is_some() || matches!(start(image).answer, Checked::Good)
+    given.is_some() || start(image).answer.is_ok()
 }
 
 // The state that the call is made with.
