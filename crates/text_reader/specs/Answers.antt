@@ -1,6 +1,6 @@
 -- What the reader's functions answer, and how an answer tells a part of the text that the definitions read.
 use Rattle.std.specs.Prelude.{◌≡◌, Bool, true, false, cond, List, ℕ, suc, ◌+◌, ◌-◌, ◌≤◌, ◌<◌, eqb, leb, ltb, length, Option, Some, None, Result, Ok, Err, ⊤}
-use Rattle.text_reader.specs.Kinds.{Port, Op, Send, Forward, Recv, Word, Fault, TextTooLong, ByteNotAllowed, WordOutOfPlace, NumberDue, NumberOverRange, OneTooMany, TooDeep, RowsFull, CutShort, NoTask, Refused, Got, Position, Counted, Head, JobSize}
+use Rattle.text_reader.specs.Kinds.{Port, Op, Send, Forward, Recv, Word, Fault, TextTooLong, ByteNotAllowed, WordOutOfPlace, NumberDue, NumberOverRange, OneTooMany, TooDeep, RowsFull, CutShort, NoTask, Refused, Got, Position, Counted, Head, CaseHead, JobSize}
 use Rattle.meaning.specs.Numbers.{channel_limit, task_limit, case_limit, value_limit, lap_limit, depth_limit, row_limit, text_too_long, byte_not_allowed, word_out_of_place, number_due, number_over_range, one_too_many, too_deep, rows_full, cut_short, no_task_given}
 use Rattle.meaning.specs.Text.{Stmt, select, Body, Job}
 use Rattle.text_words.specs.Words.{no_kind, task_kind, send_kind, forward_kind, recv_kind, close_kind, range_kind, repeat_kind, ifok_kind, select_kind, stop_kind, word_at}
@@ -46,6 +46,11 @@ unfoldable pub told_as : Result (Option Position) Refused → Part ⊤
 told_as (Ok (Some p)) = got tt p.at p.rows
 told_as (Ok None) = none
 told_as (Err e) = refusal e
+
+unfoldable pub case_part : Result (Option CaseHead) Refused → Part Op
+case_part (Ok (Some h)) = got h.op h.body.at h.body.rows
+case_part (Ok None) = none
+case_part (Err e) = refusal e
 
 unfoldable pub count_told : Result Counted Refused → Part ℕ
 count_told (Ok c) = got c.count c.behind.at c.behind.rows
@@ -97,14 +102,14 @@ module _ (s : List ℕ) (channels : ℕ) where
   abbrev pub PortTold : ℕ → Result (Got Port) Refused → Type 0
   PortTold at r = (rows : ℕ) → port s channels at rows ≡ due_part rows r
 
-  abbrev pub SendTold : ℕ → Result (Option (Got Op)) Refused → Type 0
-  SendTold at r = (rows : ℕ) → bind (port s channels at rows) (λ p at r. bind (number s value_limit at r) (λ v at r. got (Send p v) at r)) ≡ part_of rows r
+  abbrev pub SendTold : ℕ → Result (Got Op) Refused → Type 0
+  SendTold at r = (rows : ℕ) → bind (port s channels at rows) (λ p at r. bind (number s value_limit at r) (λ v at r. got (Send p v) at r)) ≡ due_part rows r
 
-  abbrev pub ForwardTold : ℕ → Result (Option (Got Op)) Refused → Type 0
-  ForwardTold at r = (rows : ℕ) → bind (port s channels at rows) (λ p at r. got (Forward p) at r) ≡ part_of rows r
+  abbrev pub ForwardTold : ℕ → Result (Got Op) Refused → Type 0
+  ForwardTold at r = (rows : ℕ) → bind (port s channels at rows) (λ p at r. got (Forward p) at r) ≡ due_part rows r
 
-  abbrev pub RecvTold : ℕ → Result (Option (Got Op)) Refused → Type 0
-  RecvTold at r = (rows : ℕ) → bind (port s channels at rows) (λ p at r. got (Recv p) at r) ≡ part_of rows r
+  abbrev pub RecvTold : ℕ → Result (Got Op) Refused → Type 0
+  RecvTold at r = (rows : ℕ) → bind (port s channels at rows) (λ p at r. got (Recv p) at r) ≡ due_part rows r
 
   abbrev pub OpTold : Word → Result (Option (Got Op)) Refused → Type 0
   OpTold w r = (rows : ℕ) → op_by s channels rows w ≡ part_of rows r
@@ -200,8 +205,8 @@ module _ (s : List ℕ) (channels : ℕ) where
 -- A JOB
 
 module _ (s : List ℕ) where
-  abbrev pub ChanTold : ℕ → ℕ → Part ⊤ → Type 0
-  ChanTold at left r = r ≡ told (chan_by s left (word_at s at) 0)
+  abbrev pub ChanTold : ℕ → ℕ → Part ℕ → Type 0
+  ChanTold at left p = p ≡ chan_by s left (word_at s at) 0
 
   abbrev pub ChansTold : Part ℕ → Type 0
   ChansTold r = r ≡ counted length 0 (chans_from s channel_limit 0 0)

@@ -11,4 +11,5 @@ pub use Rattle.text_reader.specs.declared.Got.{Got}
 pub use Rattle.text_reader.specs.declared.Position.{Position}
 pub use Rattle.text_reader.specs.declared.Counted.{Counted}
 pub use Rattle.text_reader.specs.declared.Head.{Head}
+pub use Rattle.text_reader.specs.declared.CaseHead.{CaseHead}
 pub use Rattle.text_reader.specs.declared.JobSize.{JobSize}

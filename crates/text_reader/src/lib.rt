@@ -94,6 +94,13 @@ pub enum Head {
     Select,
 }
 
+// The first words of a case: its operation, and where its body begins.
+#[derive(Clone, Copy)]
+pub struct CaseHead {
+    pub op: Op,
+    pub body: Position,
+}
+
 // A whole text that is a job: its rows, channels and tasks, counted.
 #[derive(Clone, Copy)]
 pub struct JobSize {

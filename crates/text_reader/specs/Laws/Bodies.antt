@@ -176,25 +176,25 @@ module _ (s : List ℕ) (channels at rows left : ℕ) {v : Part Op} (h : CaseHea
   unfolding bind told
   case_refused e sub = rw (h sub, e)
 
-  module _ {o : Op} {next : ℕ} (e : v ≡ got o next (rows + 1)) where
-    case_read : (sub : ℕ → ℕ → Part Body) → case_by s channels sub left (word_at s at) rows ≡ bind (sub next (rows + 1)) (λ b at r. got (o, b) at r)
+  module _ {o : Op} {next n : ℕ} (e : v ≡ got o next n) where
+    case_read : (sub : ℕ → ℕ → Part Body) → case_by s channels sub left (word_at s at) rows ≡ bind (sub next n) (λ b at r. got (o, b) at r)
     unfolding bind
     case_read sub = h sub ∙ rw e
 
-    pub case_got : (sub : ℕ → ℕ → Part Body) {u : Part ⊤} → u ≡ told (sub next (rows + 1)) → u ≡ told (case_by s channels sub left (word_at s at) rows)
-    case_got sub g = rw (case_read sub) (g ∙ told_with (sub next (rows + 1)) (λ b. (o, b)))
+    pub case_got : (sub : ℕ → ℕ → Part Body) {u : Part ⊤} → u ≡ told (sub next n) → u ≡ told (case_by s channels sub left (word_at s at) rows)
+    case_got sub g = rw (case_read sub) (g ∙ told_with (sub next n) (λ b. (o, b)))
 
-    pub case_parts : (sub : ℕ → ℕ → Part Body) {c : Op} {b : Body} {a r : ℕ} → case_by s channels sub left (word_at s at) rows ≡ got (c, b) a r → (sub next (rows + 1) ≡ got b a r) × (o ≡ c)
+    pub case_parts : (sub : ℕ → ℕ → Part Body) {c : Op} {b : Body} {a r : ℕ} → case_by s channels sub left (word_at s at) rows ≡ got (c, b) a r → (sub next n ≡ got b a r) × (o ≡ c)
     case_parts sub q =
-        let g = bind_got (sub next (rows + 1)) (λ b at r. got (o, b) at r) (sym (case_read sub) ∙ q) in
+        let g = bind_got (sub next n) (λ b at r. got (o, b) at r) (sym (case_read sub) ∙ q) in
         let z = same_got g.4 in
         let y = ap (λ (x : Op × Body). x.1) z.0 in
         (g.3 ∙ rw (y, z.1, z.2), ap (λ (x : Op × Body). x.0) z.0)
 
-    -- A row was left for it.
-    pub case_begun : rows < row_limit
+    -- A row was left for it, and is counted.
+    pub case_begun : (rows < row_limit) × (n ≡ rows + 1)
     unfolding bind size_b
     case_begun =
         let none : ℕ → ℕ → Part Body = λ at rows. got empty at rows in
-        let z : All (SizedCase left rows) (got (o, empty) next (rows + 1)) = rw (case_read none) at (case_sized s channels none (λ at rows. omega arith) left (word_at s at) rows) in
-        z.0
+        let z : All (SizedCase left rows) (got (o, empty) next n) = rw (case_read none) at (case_sized s channels none (λ at rows. omega arith) left (word_at s at) rows) in
+        (z.0, omega arith)

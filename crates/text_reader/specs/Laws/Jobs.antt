@@ -43,21 +43,21 @@ module _ (s : List ℕ) where
       (λ _. ways_all (Left left) (eqb left 0) _ _ rows (λ _. tt) (λ n. all_left left (number s capacity_limit w.next rows) (eqb-false left 0 n)))
       (λ _. tt)
 
-  pub chans_step : (left at n : ℕ) {a r : ℕ} {v : Part ⊤} → v ≡ got tt a r → ChanTold s at left v → (left ≡ 0 → ⊥) × ((j : ℕ) → suc j ≡ left → counted length (n + 1) (chans_from s j a 0) ≡ counted length n (chans_from s left at 0))
-  unfolding chans_from
-  chans_step left at n {a} {r} e h =
-      let g = told_got (chan_by s left (word_at s at) 0) (sym e ∙ h) in
-      let l : All (Left left) (got g.0 a r) = rw g.1 at (chan_left left 0 (word_at s at)) in
-      let z : All (Kept 0) (got g.0 a r) = rw g.1 at (chan_kept left 0 (word_at s at)) in
-      (l, many_more _ _ _ length left at 0 n (e ∙ ap (got tt a) z) h (λ x xs. refl))
+  pub chans_step : (left at n : ℕ) {x a r : ℕ} {v : Part ℕ} → v ≡ got x a r → ChanTold s at left v → (left ≡ 0 → ⊥) × ((j : ℕ) → suc j ≡ left → counted length (n + 1) (chans_from s j a 0) ≡ counted length n (chans_from s left at 0))
+  unfolding chans_from told
+  chans_step left at n {x} {a} {r} e h =
+      let g : got x a r ≡ chan_by s left (word_at s at) 0 = sym e ∙ h in
+      let l : All (Left left) (got x a r) = rw (← g) at (chan_left left 0 (word_at s at)) in
+      let z : All (Kept 0) (got x a r) = rw (← g) at (chan_kept left 0 (word_at s at)) in
+      (l, many_more _ _ _ length left at 0 n (ap told e ∙ ap (got tt a) z) (ap told h) (λ x xs. refl))
 
-  pub chans_end : (left at n : ℕ) {v : Part ⊤} → v ≡ none → ChanTold s at left v → got n at 0 ≡ counted length n (chans_from s left at 0)
-  unfolding chans_from
-  chans_end left at n e h = many_end _ _ _ length left at 0 n [] refl refl e h
+  pub chans_end : (left at n : ℕ) {v : Part ℕ} → v ≡ none → ChanTold s at left v → got n at 0 ≡ counted length n (chans_from s left at 0)
+  unfolding chans_from told
+  chans_end left at n e h = many_end _ _ _ length left at 0 n [] refl refl (ap told e) (ap told h)
 
-  pub chans_refused : (left at n : ℕ) {v : Part ⊤} {m place : ℕ} → v ≡ bad m place → ChanTold s at left v → bad m place ≡ counted length n (chans_from s left at 0)
-  unfolding chans_from
-  chans_refused left at n e h = many_bad _ _ _ length left at 0 n e h
+  pub chans_refused : (left at n : ℕ) {v : Part ℕ} {m place : ℕ} → v ≡ bad m place → ChanTold s at left v → bad m place ≡ counted length n (chans_from s left at 0)
+  unfolding chans_from told
+  chans_refused left at n e h = many_bad _ _ _ length left at 0 n (ap told e) (ap told h)
 
 -- The same of tasks, at any rows.
 module _ (s : List ℕ) (channels : ℕ) where

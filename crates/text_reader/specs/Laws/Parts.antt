@@ -3,10 +3,10 @@ use Rattle.std.specs.Prelude.{◌≡◌, refl, Bool, true, false, cond, List, �
 use Rattle.std.proofs.Common.{sym, ◌∙◌, arith, ltb-true}
 use Rattle.meaning.specs.Numbers.{depth_limit, row_limit, word_out_of_place, too_deep, rows_full, cut_short}
 use Rattle.meaning.specs.Laws.Tests.{cond_all}
-use Rattle.text_reader.specs.Kinds.{Word}
+use Rattle.text_reader.specs.Kinds.{Word, Refused}
 use Rattle.text_words.specs.Words.{no_kind}
 use Rattle.text_reader.specs.Reading.{Part, got, none, bad, bind, misplaced, with_row, as_block}
-use Rattle.text_reader.specs.Answers.{told, out_of_place}
+use Rattle.text_reader.specs.Answers.{refusal, told, out_of_place}
 
 -- A PART THAT IS THERE
 
@@ -91,6 +91,14 @@ told_out A s w = go (eqb w.kind no_kind)
     go : (b : Bool) → cond b (bad cut_short (length s)) (bad word_out_of_place w.start) ≡ told {A = A} (cond b (bad cut_short (length s)) (bad word_out_of_place w.start))
     go true = refl
     go false = refl
+
+pub bad_out : (A : Type 0) (s : List ℕ) (w : Word) (e : Refused) → refusal e ≡ out_of_place s w → misplaced s w ≡ refusal {A = A} e
+bad_out A s w e = go (eqb w.kind no_kind)
+  where
+    go : (b : Bool) → refusal {A = ⊤} e ≡ cond b (bad cut_short (length s)) (bad word_out_of_place w.start)
+        → cond {A = Part A} b (bad cut_short (length s)) (bad word_out_of_place w.start) ≡ refusal e
+    go true h = cc
+    go false h = cc
 
 -- WHAT A PART HOLDS, and the rows that it takes
 
