@@ -1,9 +1,9 @@
 -- The part that an answer stands for, by what the answer is: a part, none, or a refusal. Assumes nothing.
 use Rattle.std.specs.Prelude.{◌≡◌, refl, ℕ, Option, Some, None, Result, Ok, Err, ⊤}
 use Rattle.std.proofs.Common.{◌∙◌}
-use Rattle.text_reader.specs.Kinds.{Op, Refused, Got, Position, Counted, CaseHead}
+use Rattle.text_reader.specs.Kinds.{Op, Refused, Got, Position, Counted, CaseHead, JobSize}
 use Rattle.text_reader.specs.Reading.{Part, got, none}
-use Rattle.text_reader.specs.Answers.{refusal, due_part, part_of, due_told, told_as, case_part, count_told}
+use Rattle.text_reader.specs.Answers.{fault_number, numbered, refusal, due_part, part_of, due_told, told_as, case_part, count_told}
 
 -- An option that is not `Some`.
 pub none_by : {A : Type 0} (o : Option A) → ((x : A) → o ≡ Some x → ⊥) → o ≡ None
@@ -79,3 +79,13 @@ module _ {v : Result Counted Refused} where
   pub count_bad : {e : Refused} → v ≡ Err e → count_told v ≡ refusal e
   unfolding count_told
   count_bad e = rw e
+
+-- The size of a job.
+module _ {v : Result JobSize Refused} where
+  pub size_got : {j : JobSize} → v ≡ Ok j → numbered v ≡ Ok j
+  unfolding numbered
+  size_got e = rw e
+
+  pub size_bad : {e : Refused} → v ≡ Err e → numbered v ≡ Err (fault_number e.why, e.place)
+  unfolding numbered
+  size_bad e = rw e

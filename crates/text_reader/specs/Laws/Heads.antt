@@ -307,3 +307,13 @@ module _ (s : List ℕ) (channels depth at rows : ℕ) where
 
   pub head_stmt : {v i : Part Head} → v ≡ i → HeadTold s channels depth at rows v → (sub : ℕ → ℕ → Part Body) → told (stmt_of s channels sub rows i) ≡ told (stmt_by s channels sub depth (word_at s at) rows)
   head_stmt {v} {i} e h sub = ap told (stmt_of_lem sub i (head_told e h))
+
+  -- Every head has a row left.
+  pub head_row : (h : Head) (next m : ℕ) → HeadIs s channels depth rows (word_at s at) (got h next m) → rows < row_limit
+  head_row (Head.Operate o) next m f = f.0
+  head_row (Head.Close p) next m f = f.0
+  head_row Head.Stop next m f = f.0
+  head_row (Head.Range p) next m f = f.1
+  head_row (Head.Repeat n) next m f = f.1
+  head_row Head.Ifok next m f = f.1
+  head_row Head.Select next m f = f.1

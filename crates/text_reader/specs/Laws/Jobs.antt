@@ -100,7 +100,7 @@ module _ (s : List ℕ) (channels at rows left : ℕ) {v : Part ⊤} (h : TaskHe
       go false c true e = e
       go false c false e = e
 
-  pub task_begun : {next n : ℕ} → v ≡ got tt next n → task_by s channels left (word_at s at) rows ≡ bind (body s channels next rows) (λ b at r. task_end s b (word_at s at) r)
+  pub task_begun : {next n : ℕ} → v ≡ got tt next n → (n ≡ rows) × (task_by s channels left (word_at s at) rows ≡ bind (body s channels next n) (λ b at r. task_end s b (word_at s at) r))
   unfolding task_by task_head
   task_begun {next} {n} q = go (eqb w.kind task_kind) (eqb left 0) (eqb w.kind no_kind) (sym q ∙ h)
     where
@@ -108,10 +108,13 @@ module _ (s : List ℕ) (channels at rows left : ℕ) {v : Part ⊤} (h : TaskHe
       w = word_at s at
 
       go : (b c d : Bool) → got (tt {0}) next n ≡ cond b (cond c (bad one_too_many w.start) (got (tt {0}) w.next rows)) (cond d none (bad word_out_of_place w.start))
-          → cond {A = ℕ → Part Body} b (cond c (λ rows. bad one_too_many w.start) (λ rows. bind (body s channels w.next rows) (λ b at r. task_end s b (word_at s at) r)))
-          (λ rows. cond d none (bad word_out_of_place w.start)) rows ≡ bind (body s channels next rows) (λ b at r. task_end s b (word_at s at) r)
+          → (n ≡ rows) × (cond {A = ℕ → Part Body} b (cond c (λ rows. bad one_too_many w.start) (λ rows. bind (body s channels w.next rows) (λ b at r. task_end s b (word_at s at) r)))
+          (λ rows. cond d none (bad word_out_of_place w.start)) rows ≡ bind (body s channels next n) (λ b at r. task_end s b (word_at s at) r))
       go true true d e = absurd (let z : ◌≡◌ {A = ℕ} 0 1 = cc in omega arith)
-      go true false d e = let a : w.next ≡ next = cc in rw a
+      go true false d e =
+          let a : w.next ≡ next = cc in
+          let m : n ≡ rows = cc in
+          (m, rw (a, m))
       go false c true e = absurd (let z : ◌≡◌ {A = ℕ} 0 1 = cc in omega arith)
       go false c false e = absurd (let z : ◌≡◌ {A = ℕ} 0 1 = cc in omega arith)
 
