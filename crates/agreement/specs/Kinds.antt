@@ -7,5 +7,5 @@ pub use Rattle.meaning.specs.declared.Event.TheVariants.{Appended, Handed, Taken
 pub use Rattle.meaning.specs.declared.EventNumbers.{EventNumbers}
 pub use Rattle.image_check.specs.declared.Checked.{Checked}
 pub use Rattle.image_check.specs.declared.Checked.TheVariants.{Good}
-pub use Rattle.translate.specs.declared.Translated.{Translated}
-pub use Rattle.translate.specs.declared.Translated.TheVariants.{Image}
+pub use Rattle.translate.specs.Translated.{Translated}
+pub use Rattle.translate.specs.Translated.{Image}

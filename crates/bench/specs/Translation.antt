@@ -2,7 +2,7 @@
 use Rattle.std.specs.Prelude.{ℕ, ◌+◌, ◌*◌}
 use Rattle.bench.specs.Kinds.{Checked, Translated}
 use Rattle.image_check.specs.declared.Checked.TheVariants as check-answers
-use Rattle.translate.specs.declared.Translated.TheVariants as translations
+use Rattle.translate.specs.Translated as translations
 
 abbrev pub length_of : Translated → ℕ
 length_of (translations.Image n) = n

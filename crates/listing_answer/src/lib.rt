@@ -6,7 +6,7 @@ ghost use Rattle.std.specs.Prelude.{◌≡◌, ◌%◌, length, take, drop};
 ghost use Rattle.listing_answer.specs.Answer.{scheduled, answered, image_after};
 
 use listing_input::{Schedule, read_schedule, split_at_run};
-use translate::{Translated, translate};
+use translate::translate;
 
 // What an input comes to: one of the three lines that stand alone, or a run.
 #[derive(Clone, Copy)]
@@ -74,10 +74,9 @@ pub fn answer_of(input: &[u8], image: &mut [u8]) -> Answer
         return Answer::TooLong;
     }
     let parts = split_at_run(input);
-    let translated = translate(first(input, parts.text), image);
-    match translated {
-        Translated::Refused(number, place) => Answer::Refused(number, narrow(place)),
-        Translated::Image(n) => {
+    match translate(first(input, parts.text), image) {
+        Err(why) => Answer::Refused(why.number(), narrow(why.place())),
+        Ok(n) => {
             let given = read_schedule(behind(input, parts.rest));
             scheduled_as(n, parts.rest, given)
         }
