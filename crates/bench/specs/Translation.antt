@@ -2,7 +2,7 @@
 use Rattle.std.specs.Prelude.{ℕ, ◌+◌, ◌*◌, Result, Ok, Err, ⊤}
 use Rattle.bench.specs.Kinds.{ImageFault, Translated}
 use Rattle.image_check.specs.Check.{fault_number, fault_place}
-use Rattle.translate.specs.declared.Translated.TheVariants as translations
+use Rattle.translate.specs.Translated as translations
 
 abbrev pub length_of : Translated → ℕ
 length_of (translations.Image n) = n

@@ -5,16 +5,13 @@ ghost use Rattle.translate.specs.Translated.{translated, written};
 ghost use Rattle.bench.specs.Translation.{length_of, refusal_of};
 
 use image_check::check;
-use translate::{Translated, translate};
+use translate::translate;
 
 // The image's length, or 0 where the text is refused.
 pub fn bench_translate(text: &[u8], image: &mut [u8]) -> usize
     ensures { (result ≡ length_of (translated text.now (length image.old))) × (image.new ≡ written text.now image.old) }
 {
-    match translate(text, image) {
-        Translated::Image(n) => n,
-        Translated::Refused(_, _) => 0,
-    }
+    translate(text, image).unwrap_or(0)
 }
 
 // The number and 256 times the place of the check's refusal, or 0.

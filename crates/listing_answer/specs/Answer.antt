@@ -2,7 +2,7 @@
 use Rattle.std.specs.Prelude.{cond, List, ℕ, ◌%◌, ltb, length, take, drop, Option, Some, None, Result, Ok, Err}
 use Rattle.listing_answer.specs.Kinds.{Translated, Run, Unlisted, TooLong, BadSchedule}
 use Rattle.meaning.specs.Numbers.{input_limit}
-use Rattle.translate.specs.declared.Translated.TheVariants as t
+use Rattle.translate.specs.Translated as t
 use Rattle.translate.specs.Translated.{translated, written}
 use Rattle.listing_input.specs.Input.{split_of, schedule_of}
 use Rattle.listing_answer.specs.declared.Unlisted.TheVariants.{Refused}

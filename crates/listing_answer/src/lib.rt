@@ -6,7 +6,7 @@ ghost use Rattle.std.specs.Prelude.{◌≡◌, ◌%◌, length, take, drop};
 ghost use Rattle.listing_answer.specs.Answer.{scheduled, answered, image_after};
 
 use listing_input::{read_schedule, split_at_run};
-use translate::{Translated, translate};
+use translate::translate;
 
 // A run: how long its image is, how many pairs its schedule has, and where that begins in the input.
 #[derive(Clone, Copy)]
@@ -78,10 +78,9 @@ pub fn answer_of(input: &[u8], image: &mut [u8]) -> Result<Run, Unlisted>
         return Err(Unlisted::TooLong);
     }
     let parts = split_at_run(input);
-    let translated = translate(first(input, parts.text), image);
-    match translated {
-        Translated::Refused(number, place) => Err(Unlisted::Refused(number, narrow(place))),
-        Translated::Image(n) => {
+    match translate(first(input, parts.text), image) {
+        Err(why) => Err(Unlisted::Refused(why.number(), narrow(why.place()))),
+        Ok(n) => {
             let given = read_schedule(behind(input, parts.rest));
             scheduled_as(n, parts.rest, given)
         }

@@ -1,8 +1,8 @@
 -- Every kind that this crate speaks of, its own and those of the crates below.
 pub use Rattle.meaning.specs.declared.Task.{Task}
 pub use Rattle.meaning.specs.declared.Chan.{Chan}
-pub use Rattle.translate.specs.declared.Translated.{Translated}
-pub use Rattle.translate.specs.declared.Translated.TheVariants.{Image}
+pub use Rattle.translate.specs.Translated.{Translated}
+pub use Rattle.translate.specs.Translated.{Image}
 pub use Rattle.machine_store.specs.declared.State.{State}
 pub use Rattle.machine_records.specs.declared.Change.{Change}
 pub use Rattle.machine_records.specs.declared.Change.TheVariants.{Keep}

@@ -4,7 +4,7 @@ use Rattle.std.specs.Prelude.{cond, List, [], ◌∷◌, ◌++◌, ℕ, zero, su
 use Rattle.meaning.specs.Numbers.{input_limit}
 use Rattle.meaning.specs.Events.{numbers}
 use Rattle.listing_session.specs.Kinds.{Translated, State, Turned}
-use Rattle.translate.specs.declared.Translated.TheVariants as t
+use Rattle.translate.specs.Translated as t
 use Rattle.translate.specs.Translated.{translated, written}
 use Rattle.machine_records.specs.Values.{Values, changed}
 use Rattle.machine_store.specs.Store.{records_of}

@@ -3,62 +3,72 @@
 #![tactic(auto)]
 
 ghost use Rattle.std.specs.Prelude.{◌≡◌};
-ghost use Rattle.text_reader.specs.Answers.{NumberTold, PortTold, out_of_place};
+ghost use Rattle.text_reader.specs.Answers.{refusal, NumberTold, PortTold, out_of_place};
 
 use meaning::{Chan, Port};
-use text_reader::kinds::{CUT_SHORT, NIL, NUMBER_DUE, NUMBER_OVER_RANGE, WORD_OUT_OF_PLACE};
-use text_reader::{NumberRead, PortRead, Read};
+use text_reader::kinds::NIL;
+use text_reader::{Fault, Got, Refused};
 use text_words::{NO_WORD, NUMBER, Word, word_at};
 
 // A number that is due, 0 to a limit.
-pub fn read_number(text: &[u8], limit: u16, at: usize) -> NumberRead
+pub fn read_number(text: &[u8], limit: u16, at: usize) -> Result<Got<u16>, Refused>
     ensures { NumberTold text.now limit at result }
 {
     let w = word_at(text, at);
     let kind = w.kind;
     let value = w.value;
+    let start = w.start;
     if kind == NO_WORD {
-        return NumberRead::Refused(CUT_SHORT, text.len());
+        return Err(Fault::CutShort.at(text.len()));
     }
     if kind != NUMBER {
-        return NumberRead::Refused(NUMBER_DUE, w.start);
+        return Err(Fault::NumberDue.at(start));
     }
     if (limit as u32) < value {
-        return NumberRead::Refused(NUMBER_OVER_RANGE, w.start);
+        return Err(Fault::NumberOverRange.at(start));
     }
-    NumberRead::Got(value as u16, w.next)
+    Ok(Got {
+        value: value as u16,
+        next: w.next,
+    })
 }
 
 // A channel that is due: a declared one, or nil.
-pub fn read_port(text: &[u8], channels: u8, at: usize) -> PortRead
+pub fn read_port(text: &[u8], channels: u8, at: usize) -> Result<Got<Port>, Refused>
     ensures { PortTold text.now channels at result }
 {
     let w = word_at(text, at);
     let kind = w.kind;
     let value = w.value;
     if kind == NO_WORD {
-        return PortRead::Refused(CUT_SHORT, text.len());
+        return Err(Fault::CutShort.at(text.len()));
     }
     if kind == NIL {
-        return PortRead::Got(Port::Nil, w.next);
+        return Ok(Got {
+            value: Port::Nil,
+            next: w.next,
+        });
     }
     if kind != NUMBER {
-        return PortRead::Refused(NUMBER_DUE, w.start);
+        return Err(Fault::NumberDue.at(w.start));
     }
     if channels as u32 <= value {
-        return PortRead::Refused(NUMBER_OVER_RANGE, w.start);
+        return Err(Fault::NumberOverRange.at(w.start));
     }
     let c = Chan(value as u8);
-    PortRead::Got(Port::On(c), w.next)
+    Ok(Got {
+        value: Port::On(c),
+        next: w.next,
+    })
 }
 
 // The refusal of a word that can't stand here, or of a text that has stopped.
-pub fn misplaced(text: &[u8], w: Word) -> Read
-    ensures { result ≡ out_of_place text.now w }
+pub fn misplaced(text: &[u8], w: Word) -> Refused
+    ensures { refusal result ≡ out_of_place text.now w }
 {
     let kind = w.kind;
     if kind == NO_WORD {
-        return Read::Refused(CUT_SHORT, text.len());
+        return Fault::CutShort.at(text.len());
     }
-    Read::Refused(WORD_OUT_OF_PLACE, w.start)
+    Fault::WordOutOfPlace.at(w.start)
 }

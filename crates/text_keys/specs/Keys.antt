@@ -1,5 +1,5 @@
 -- The key of a list of bytes, and sixteen words searched by key.
-use Rattle.std.specs.Prelude.{Bool, cond, List, [], ◌∷◌, ℕ, zero, suc, ◌+◌, ◌-◌, ◌*◌, ◌/◌, ◌%◌, ◌^◌, eqb, get_or}
+use Rattle.std.specs.Prelude.{Bool, cond, List, [], ◌∷◌, ℕ, zero, suc, ◌+◌, ◌-◌, ◌*◌, ◌/◌, ◌%◌, ◌^◌, eqb, ltb, get_or, Option, Some, None}
 
 -- Bytes gathered as a number base 256, modulo 256 ^ 8: the last eight count.
 abbrev pub key_more : ℕ → ℕ → ℕ
@@ -42,3 +42,7 @@ row_size lengths k = get_or lengths k 0
 
 unfoldable pub place_in : List (List ℕ) → List ℕ → ℕ → ℕ → ℕ
 place_in words lengths key n = searched (row_key words lengths) (row_size lengths) key n
+
+-- A place of the table, and none behind the last.
+abbrev pub found : ℕ → Option ℕ
+found k = cond (ltb k places) (Some k) None

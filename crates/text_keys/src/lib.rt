@@ -3,7 +3,7 @@
 #![tactic(auto)]
 
 ghost use Rattle.std.specs.Prelude.{◌≡◌};
-ghost use Rattle.text_keys.specs.Keys.{key_more, key_of, cut_key, place_in};
+ghost use Rattle.text_keys.specs.Keys.{key_more, key_of, cut_key, found, place_in};
 
 // How many words a table has: the reserved words.
 pub const PLACES: u8 = 16;
@@ -19,10 +19,8 @@ fn key_of_row(row: [u8; 8]) -> u64
     ensures { result ≡ key_of row }
 {
     let mut key: u64 = 0;
-    let mut i = 0;
-    while i < 8 {
-        key = key_more(key, row[i]);
-        i = i + 1;
+    for b in row {
+        key = key_more(key, b);
     }
     key
 }
@@ -48,25 +46,22 @@ fn wide(n: u8) -> usize
     n as usize
 }
 
-// The place in a table of the word with this key and this length, PLACES where there is none. The loop compares numbers, and asks for
-// the length only where the key is found: over a constant table the compiler makes a tree of comparisons of it.
+// The place in a table of the word with this key and this length, if there is one. The loop compares numbers, and asks for the length
+// only where the key is found: over a constant table the compiler makes a tree of comparisons of it.
 pub fn place_in(
     words: [[u8; 8]; PLACES as usize],
     lengths: [u8; PLACES as usize],
     key: u64,
     length: usize,
-) -> u8
-    ensures { result ≡ place_in words lengths key length }
+) -> Option<u8>
+    ensures { result ≡ found (place_in words lengths key length) }
 {
-    let mut k: u8 = 0;
-    while k < PLACES {
-        let i = k as usize;
-        let row = words[i];
-        let n = lengths[i];
+    for k in 0..PLACES {
+        let row = words[k as usize];
+        let n = lengths[k as usize];
         if key == key_of(row, n) {
-            return if length == wide(n) { k } else { PLACES };
+            return if length == wide(n) { Some(k) } else { None };
         }
-        k = k + 1;
     }
-    k
+    None
 }

@@ -1,4 +1,5 @@
 -- What is proved of the definitions: nothing here has to be believed.
+pub mod Answered
 pub mod Bodies
 pub mod Heads
 pub mod Jobs

@@ -1,8 +1,8 @@
 -- Document 01, 'Job text' and the table 'given when / place': a text read, word by word from the left, as nested statements, or
 -- refused at the first bad word. The grammar is read by recursive descent; a limit is judged at the word that would pass it, ahead
 -- of the words behind it, and at one word the lowest number is given.
-use Rattle.std.specs.Prelude.{Bool, true, cond, List, [], ◌∷◌, ℕ, zero, suc, ◌+◌, eqb, leb, ltb, length}
-use Rattle.text_reader.specs.Kinds.{Port, Nil, On, Op, Send, Forward, Recv, Word, Place, Nowhere, At}
+use Rattle.std.specs.Prelude.{Bool, true, cond, List, [], ◌∷◌, ℕ, zero, suc, ◌+◌, eqb, leb, ltb, length, Option, Some, None}
+use Rattle.text_reader.specs.Kinds.{Port, Nil, On, Op, Send, Forward, Recv, Word}
 use Rattle.meaning.specs.Numbers.{text_limit, channel_limit, capacity_limit, task_limit, case_limit, value_limit, lap_limit, depth_limit, row_limit, text_too_long, byte_not_allowed, word_out_of_place, number_due, number_over_range, one_too_many, too_deep, rows_full, cut_short, no_task_given}
 use Rattle.meaning.specs.Text.{Stmt, operate, close, stop, range, repeat, ifok, select, Body, empty, ◌▸◌, Cases, nomore, default, case, Job}
 use Rattle.text_words.specs.Words.{no_kind, chan_kind, task_kind, send_kind, forward_kind, recv_kind, close_kind, range_kind, repeat_kind, ifok_kind, else_kind, select_kind, case_kind, default_kind, stop_kind, end_kind, nil_kind, number_kind, word_at, first_not_allowed}
@@ -183,9 +183,9 @@ module _ (s : List ℕ) where
   job = bind (chans_from channel_limit 0 0) (λ caps at r. bind (tasks_from (length caps) task_limit at r) (λ bs at r. job_of caps bs at r))
 
   -- "1, then 2 over the whole text, then the first bad word from the left .., then 9, 10"
-  abbrev pub allowed_by : Place → ℕ → Part Job
-  allowed_by Nowhere n = job
-  allowed_by (At i) n = bad byte_not_allowed i
+  abbrev pub allowed_by : Option ℕ → ℕ → Part Job
+  allowed_by None n = job
+  allowed_by (Some i) n = bad byte_not_allowed i
 
   unfoldable pub reading : Part Job
   reading = cond (ltb text_limit (length s)) (λ n. bad text_too_long 0) (allowed_by (first_not_allowed s)) 0

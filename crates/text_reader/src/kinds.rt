@@ -1,5 +1,4 @@
-// The kinds of the reserved words, the limits of a text beside those of meaning::sizes, and the refusals of document 01, each number
-// under one name.
+// The kinds of the reserved words and the limits of a text beside those of meaning::sizes, each number under one name.
 use meaning::sizes::CELLS;
 
 pub const CHAN: u8 = 1;
@@ -39,23 +38,3 @@ pub const TEXT_LIMIT: usize = 16384;
 pub const CAPACITY_LIMIT: u16 = CELLS as u16;
 
 pub const VALUE_LIMIT: u16 = 65535;
-
-pub const TEXT_TOO_LONG: u8 = 1;
-
-pub const BYTE_NOT_ALLOWED: u8 = 2;
-
-pub const WORD_OUT_OF_PLACE: u8 = 3;
-
-pub const NUMBER_DUE: u8 = 4;
-
-pub const NUMBER_OVER_RANGE: u8 = 5;
-
-pub const ONE_TOO_MANY: u8 = 6;
-
-pub const TOO_DEEP: u8 = 7;
-
-pub const ROWS_FULL: u8 = 8;
-
-pub const CUT_SHORT: u8 = 9;
-
-pub const NO_TASK: u8 = 10;

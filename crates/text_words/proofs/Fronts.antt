@@ -10,6 +10,7 @@ use borrow.Author.Tests.{lt-ltb, eq-eqb, ne_eqb, ltb-true, ltb-false}
 use lib.Dec.{ltb, leb-suc-suc}
 use lib.ListN.{length, get_or, take, drop, drop_of_length-le}
 use lib.Seq.{drop-cons, get_or-take, length-take-le}
+use Rattle.std.specs.List.{position_or_len}
 use Rattle.text_words.specs.Words.{is_blank, in_word, run}
 use Rattle.text_words.specs.Scan.{front, ends_at}
 use Rattle.text_words.specs.Laws.Words.{run_within, run_more, run_stop, run_end}
@@ -111,3 +112,13 @@ goes_on text i e = go (ltb i (length text)) refl
     go : (b : Bool) → ltb i (length text) ≡ b → (i < length text) × (in_word (get_or text i 0) ≡ true)
     go true t = let h = ltb-true i (length text) t in (h, rw (ends_here text i h, e))
     go false t = absurd (true≢false (ends_past text i (ltb-false i (length text) t) ∙ e))
+
+-- The first place whose element does not pass, as the library finds it.
+pub first_place : {A : Type 0} (p : A → Bool) (l : List A) → position_or_len (λ x. not (p x)) l ≡ run p l
+unfolding run
+first_place p [] = refl
+first_place p (x ∷ l) = go (p x) (first_place p l)
+  where
+    go : (b : Bool) → position_or_len (λ x. not (p x)) l ≡ run p l → cond (not (not b)) (1 + position_or_len (λ x. not (p x)) l) 0 ≡ cond b (suc (run p l)) 0
+    go true e = omega arith
+    go false e = refl

@@ -1,7 +1,7 @@
 -- The words of a job text: document 01, 'Job text'. A text is a list of bytes, and so is a word.
-use Rattle.std.specs.Prelude.{Bool, true, false, cond, not, ◌&&◌, ◌||◌, List, [], ◌∷◌, ℕ, suc, ◌+◌, ◌-◌, ◌*◌, min, eqb, leb, ltb, length, get_or, take, drop}
+use Rattle.std.specs.Prelude.{Bool, true, false, cond, not, ◌&&◌, ◌||◌, List, [], ◌∷◌, ℕ, suc, ◌+◌, ◌-◌, ◌*◌, min, eqb, leb, ltb, length, get_or, take, drop, Option, Some, None}
 use Rattle.meaning.specs.Numbers.{value_limit}
-use Rattle.text_words.specs.Kinds.{Word, Place, Nowhere, At}
+use Rattle.text_words.specs.Kinds.{Word}
 
 -- "Bytes a to z, 0 to 9, blank (32) and newline (10)". Words are parted by the last two.
 unfoldable pub is_blank : ℕ → Bool
@@ -165,5 +165,5 @@ unfoldable pub word_at : List ℕ → ℕ → Word
 word_at text at = record { kind = kind_of (bytes_at text at); value = value_of (bytes_at text at); start = start_at text at; next = next_at text at }
 
 -- The first byte of a text that is not allowed.
-unfoldable pub first_not_allowed : List ℕ → Place
-first_not_allowed text = cond (ltb (run is_allowed text) (length text)) (At (run is_allowed text)) Nowhere
+unfoldable pub first_not_allowed : List ℕ → Option ℕ
+first_not_allowed text = cond (ltb (run is_allowed text) (length text)) (Some (run is_allowed text)) None

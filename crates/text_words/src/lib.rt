@@ -32,13 +32,6 @@ pub struct Word {
     pub next: usize,
 }
 
-// A byte's place in a text, if there is such a byte.
-#[derive(Clone, Copy)]
-pub enum Place {
-    Nowhere,
-    At(usize),
-}
-
 // The bytes of a word: their key, and the place behind them.
 #[derive(Clone, Copy)]
 struct Letters {
@@ -51,37 +44,20 @@ fn any_not_allowed(text: &[u8]) -> bool
     ensures { result ≡ ltb (run is_allowed text.now) (length text.now) }
 {
     let mut any = false;
-    let mut i = 0;
-    while i < text.len() {
-        any = any | !is_allowed(text[i]);
-        i = i + 1;
+    for b in text {
+        any = any | !is_allowed(*b);
     }
     any
 }
 
-// How many bytes stand ahead of the first that is not allowed.
-fn allowed_ahead(text: &[u8]) -> usize
-    ensures { result ≡ run is_allowed text.now }
-{
-    let mut i = 0;
-    while i < text.len() {
-        if is_allowed(text[i]) {
-            i = i + 1;
-        } else {
-            return i;
-        }
-    }
-    i
-}
-
-// The first byte of a text that is not allowed: looked for only where there is one.
-pub fn first_not_allowed(text: &[u8]) -> Place
+// The place of the first byte of a text that is not allowed: looked for only where there is one.
+pub fn first_not_allowed(text: &[u8]) -> Option<usize>
     ensures { result ≡ first_not_allowed text.now }
 {
     if any_not_allowed(text) {
-        Place::At(allowed_ahead(text))
+        text.iter().position(|b| !is_allowed(*b))
     } else {
-        Place::Nowhere
+        None
     }
 }
 
@@ -89,15 +65,13 @@ pub fn first_not_allowed(text: &[u8]) -> Place
 fn skip_blanks(text: &[u8], at: usize) -> usize
     ensures { result ≡ at + run is_blank (drop at text.now) }
 {
-    let mut i = at;
-    while i < text.len() {
-        if is_blank(text[i]) {
-            i = i + 1;
-        } else {
+    let end = at.max(text.len());
+    for i in at..end {
+        if !is_blank(text[i]) {
             return i;
         }
     }
-    i
+    end
 }
 
 // Whether a word that comes to `at` ends there.
@@ -115,24 +89,29 @@ fn ends_at(text: &[u8], at: usize) -> bool
 fn word_end(text: &[u8], at: usize) -> usize
     ensures { result ≡ at + run in_word (drop at text.now) }
 {
-    let mut i = at;
-    while !ends_at(text, i) {
-        i = i + 1;
+    let end = at.max(text.len());
+    for i in at..end {
+        if is_blank(text[i]) {
+            return i;
+        }
     }
-    i
+    end
 }
 
 // The bytes from `at` to the word's end, gathered behind those of the key `before`.
 fn letters_from(text: &[u8], before: u64, at: usize) -> Letters
     ensures { result ≡ letters_from text.now before at }
 {
+    let end = at.max(text.len());
     let mut key = before;
-    let mut i = at;
-    while !ends_at(text, i) {
-        key = key_more(key, text[i]);
-        i = i + 1;
+    for i in at..end {
+        let b = text[i];
+        if is_blank(b) {
+            return Letters { key, next: i };
+        }
+        key = key_more(key, b);
     }
-    Letters { key: key, next: i }
+    Letters { key, next: end }
 }
 
 // "A number is digits only, with no leading 0 unless it is `0`": whether the n digits up to `next`, of which this is the first, are one.
@@ -158,14 +137,14 @@ fn number_at(text: &[u8], start: usize) -> Word
         return Word {
             kind: NUMBER,
             value: value_by(digits.value, n),
-            start: start,
-            next: next,
+            start,
+            next,
         };
     }
     Word {
         kind: OTHER_WORD,
         value: 0,
-        start: start,
+        start,
         next: word_end(text, next),
     }
 }
@@ -180,8 +159,8 @@ fn letters_at(text: &[u8], start: usize) -> Word
     Word {
         kind: kind_by(letters.key, next - start),
         value: 0,
-        start: start,
-        next: next,
+        start,
+        next,
     }
 }
 
@@ -194,7 +173,7 @@ pub fn word_at(text: &[u8], at: usize) -> Word
         return Word {
             kind: NO_WORD,
             value: 0,
-            start: start,
+            start,
             next: start,
         };
     }

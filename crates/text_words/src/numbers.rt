@@ -28,18 +28,16 @@ pub fn digits_from(text: &[u8], before: u64, at: usize) -> Digits
     requires { before < 2 ^ 32 }
     ensures { result ≡ digits_from text.now before at }
 {
-    let mut v = before;
-    let mut i = at;
-    while i < text.len() {
+    let end = at.max(text.len());
+    let mut value = before;
+    for i in at..end {
         let b = text[i];
-        if is_digit(b) {
-            v = value_more(v, b);
-            i = i + 1;
-        } else {
-            return Digits { value: v, next: i };
+        if !is_digit(b) {
+            return Digits { value, next: i };
         }
+        value = value_more(value, b);
     }
-    Digits { value: v, next: i }
+    Digits { value, next: end }
 }
 
 // Whether n digits, of which this is the first, have a leading 0.

@@ -34,6 +34,8 @@ pub fn kind_by(key: u64, length: usize) -> u8
 {
     let words = WORDS;
     let lengths = LENGTHS;
-    let k = place_in(words, lengths, key, length);
-    if k < PLACES { k + 1 } else { OTHER_WORD }
+    match place_in(words, lengths, key, length) {
+        Some(k) => k + 1,
+        None => OTHER_WORD,
+    }
 }

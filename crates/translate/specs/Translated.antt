@@ -1,11 +1,30 @@
 -- Document 01, 'What comes back': "Translation: the image length, image at the buffer's start, later bytes untouched; or a number
 -- and a place, buffer untouched."
-use Rattle.std.specs.Prelude.{cond, List, ◌++◌, ℕ, leb, length, drop}
+use Rattle.std.specs.Prelude.{cond, List, ◌++◌, ℕ, leb, length, drop, Result, Ok, Err}
 use Rattle.meaning.specs.Numbers.{buffer_too_short}
 use Rattle.meaning.specs.Text.{Job}
 use Rattle.meaning.specs.Bytes.{job_image}
 use Rattle.text_reader.specs.Reading.{Part, got, none, bad, reading}
-use Rattle.translate.specs.Kinds.{Translated, Image, Refused}
+use Rattle.text_reader.specs.Answers.{fault_number}
+use Rattle.translate.specs.Kinds.{NoImage}
+
+-- What comes back: the image's length, or a refusal's number and place.
+pub data Translated : Type 0 where
+  Image : ℕ → Translated
+  Refused : ℕ → ℕ → Translated
+
+-- The number and the place of what the code answers where there is no image.
+abbrev pub number_of : NoImage → ℕ
+number_of (NoImage.Refused r) = fault_number r.why
+number_of (NoImage.BufferTooShort n) = buffer_too_short
+
+abbrev pub place_of : NoImage → ℕ
+place_of (NoImage.Refused r) = r.place
+place_of (NoImage.BufferTooShort n) = n
+
+abbrev pub answered : Result ℕ NoImage → Translated
+answered (Ok n) = Image n
+answered (Err e) = Refused (number_of e) (place_of e)
 
 -- 11: "buffer shorter than the image", with the length needed as its place, behind every other refusal. (A whole text is always
 -- read or refused; that nothing is there to read is no answer of `reading`.)

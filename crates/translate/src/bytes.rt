@@ -6,6 +6,7 @@ ghost use Rattle.meaning.specs.Bytes.{two, trailer};
 ghost use Rattle.meaning.specs.Numbers.{channel_limit, task_limit, row_limit};
 
 use meaning::sizes::{IMAGE_MARK, IMAGE_VERSION};
+use text_reader::JobSize;
 
 pub fn put_byte(out: &mut [u8], i: usize, b: u8)
     ensures { out.new ≡ set out.old i b }
@@ -23,19 +24,16 @@ pub fn put_two(out: &mut [u8], i: usize, n: u16)
     put_byte(out, i + 1, (n / 256 % 256) as u8);
 }
 
-// The trailer of an image with so many rows, channels and tasks, from byte i on.
-pub fn put_trailer(out: &mut [u8], i: usize, rows: u16, channels: u8, tasks: u8)
-    requires { (i ≤ 65000) × (rows ≤ row_limit) × (channels ≤ channel_limit) × (tasks ≤ task_limit) }
-    ensures { out.new ≡ sets out.old i (trailer rows channels tasks) }
+// The trailer of the image of a job of this size, from byte i on.
+pub fn put_trailer(out: &mut [u8], i: usize, size: JobSize)
+    requires { (i ≤ 65000) × (size.rows ≤ row_limit) × (size.channels ≤ channel_limit) × (size.tasks ≤ task_limit) }
+    ensures { out.new ≡ sets out.old i (trailer size.rows size.channels size.tasks) }
 {
-    put_two(out, i, rows);
-    put_byte(out, i + 2, channels);
-    put_byte(out, i + 3, tasks);
-    put_two(
-        out,
-        i + 4,
-        8 * rows + (channels as u16) + 2 * (tasks as u16),
-    );
+    let body = 8 * size.rows + (size.channels as u16) + 2 * (size.tasks as u16);
+    put_two(out, i, size.rows);
+    put_byte(out, i + 2, size.channels);
+    put_byte(out, i + 3, size.tasks);
+    put_two(out, i + 4, body);
     put_byte(out, i + 6, IMAGE_MARK);
     put_byte(out, i + 7, IMAGE_VERSION);
 }

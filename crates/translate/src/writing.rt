@@ -7,7 +7,7 @@ ghost use Rattle.translate.specs.Stored.{CapacitiesStored, FirstsStored, RestSto
 use crate::bytes::{put_byte, put_trailer, put_two};
 use meaning::sizes::TASKS;
 use text_due::read_number;
-use text_reader::NumberRead;
+use text_reader::JobSize;
 use text_reader::kinds::CAPACITY_LIMIT;
 use text_words::word_at;
 
@@ -17,16 +17,13 @@ fn lay_capacities(text: &[u8], channels: u8, base: usize, out: &mut [u8])
     ensures { CapacitiesStored text.now channels base out.old out.new }
 {
     let mut at = 0;
-    let mut n: u8 = 0;
-    while n < channels {
+    for n in 0..channels {
         let w = word_at(text, at);
-        let r = read_number(text, CAPACITY_LIMIT, w.next);
-        let NumberRead::Got(capacity, behind) = r else {
+        let Ok(capacity) = read_number(text, CAPACITY_LIMIT, w.next) else {
             return;
         };
-        put_byte(out, base + (n as usize), capacity as u8);
-        at = behind;
-        n = n + 1;
+        put_byte(out, base + (n as usize), capacity.value as u8);
+        at = capacity.next;
     }
 }
 
@@ -35,31 +32,21 @@ fn lay_firsts(firsts: [u16; TASKS as usize], tasks: u8, base: usize, out: &mut [
     requires { (tasks ≤ task_limit) × (base ≤ 65000) }
     ensures { FirstsStored firsts tasks base out.old out.new }
 {
-    let mut t: u8 = 0;
-    while t < tasks {
+    for t in 0..tasks {
         let k = t as usize;
-        let first = firsts[k];
-        put_two(out, base + 2 * k, first);
-        t = t + 1;
+        put_two(out, base + 2 * k, firsts[k]);
     }
 }
 
-// All that stands behind the rows of a text that pass 1 has read as a job with so many rows, channels and tasks.
-pub(crate) fn lay_rest(
-    text: &[u8],
-    rows: u16,
-    channels: u8,
-    tasks: u8,
-    firsts: [u16; TASKS as usize],
-    out: &mut [u8],
-)
-    requires { (rows ≤ row_limit) × (channels ≤ channel_limit) × (tasks ≤ task_limit) }
-    ensures { RestStored text.now rows channels tasks firsts out.old out.new }
+// All that stands behind the rows of a text that pass 1 has read as a job of this size.
+pub(crate) fn lay_rest(text: &[u8], size: JobSize, firsts: [u16; TASKS as usize], out: &mut [u8])
+    requires { (size.rows ≤ row_limit) × (size.channels ≤ channel_limit) × (size.tasks ≤ task_limit) }
+    ensures { RestStored text.now size.rows size.channels size.tasks firsts out.old out.new }
 {
-    let capacities = 8 * (rows as usize);
-    let places = capacities + (channels as usize);
-    let trailer = places + 2 * (tasks as usize);
-    lay_capacities(text, channels, capacities, out);
-    lay_firsts(firsts, tasks, places, out);
-    put_trailer(out, trailer, rows, channels, tasks);
+    let capacities = 8 * (size.rows as usize);
+    let places = capacities + (size.channels as usize);
+    let trailer = places + 2 * (size.tasks as usize);
+    lay_capacities(text, size.channels, capacities, out);
+    lay_firsts(firsts, size.tasks, places, out);
+    put_trailer(out, trailer, size);
 }

@@ -7,7 +7,9 @@ pub use Rattle.meaning.specs.declared.Fields.{Fields}
 pub use Rattle.meaning.specs.declared.Statement.{Statement}
 pub use Rattle.meaning.specs.declared.Statement.TheVariants.{Do, Close, Range, Repeat, Ifok, Select, Case, Stop}
 pub use Rattle.text_words.specs.declared.Word.{Word}
-pub use Rattle.text_reader.specs.declared.Read.{Read}
-pub use Rattle.text_reader.specs.declared.Counted.{Counted}
 pub use Rattle.text_reader.specs.declared.Head.{Head}
-pub use Rattle.text_reader.specs.declared.Reading.{Reading}
+pub use Rattle.text_reader.specs.declared.JobSize.{JobSize}
+pub use Rattle.text_reader.specs.declared.Refused.{Refused}
+pub use Rattle.text_reader.specs.declared.Got.{Got}
+pub use Rattle.text_reader.specs.declared.Position.{Position}
+pub use Rattle.translate_rows.specs.declared.Passed.{Passed}

@@ -1,13 +1,13 @@
 -- What pass 1's functions leave in the notes, beside their answers: whatever part of the text the definitions read, in enough steps,
 -- its notes stand from its first row on. (Of a text that is refused nothing is said: its notes are not looked at.)
-use Rattle.std.specs.Prelude.{◌≡◌, List, [], ◌∷◌, ◌++◌, map, ℕ, suc, ◌+◌, ◌-◌, ◌*◌, ◌≤◌, ◌<◌}
+use Rattle.std.specs.Prelude.{◌≡◌, List, [], ◌∷◌, ◌++◌, map, ℕ, suc, ◌+◌, ◌-◌, ◌*◌, ◌≤◌, ◌<◌, ⊤}
 use Rattle.std.proofs.lemmas.List.Edits.{sets}
-use Rattle.translate_rows.specs.Kinds.{Row, Op, Read}
+use Rattle.translate_rows.specs.Kinds.{Row, Op}
 use Rattle.meaning.specs.Numbers.{case_limit, row_limit, task_limit}
 use Rattle.meaning.specs.Text.{Stmt, ifok, select, Body, Cases, nomore, default, case, Job}
 use Rattle.meaning.specs.Layout.{size_b, first_rows}
 use Rattle.text_words.specs.Words.{word_at}
-use Rattle.text_reader.specs.Reading.{Part, got, bind, closed, second_by, case_by, last_by, cases_from, stmt_by, body_from, task_by, tasks_from}
+use Rattle.text_reader.specs.Reading.{Part, got, bind, closed, second_by, case_by, last_by, cases_from, stmt_by, body_from, task_by, tasks_from, none}
 use Rattle.translate_notes.specs.Notes.{op_code, op_port, op_arg, last_arg, notes_s, notes_b, notes_c, noted, all_of}
 
 -- The notes of a case and its body, and of the cases alone, without the default's.
@@ -20,8 +20,8 @@ lines_c (default b) d = []
 lines_c (case o b cs) d = case_notes o b d ++ lines_c cs d
 
 -- Where no such part stands, the notes are as they were.
-abbrev pub Unmoved : List ℕ → List ℕ → Read → Type 0
-Unmoved old new r = r ≡ Read.Nothing → new ≡ old
+abbrev pub Unmoved : List ℕ → List ℕ → Part ⊤ → Type 0
+Unmoved old new r = r ≡ none → new ≡ old
 
 module _ (s : List ℕ) (channels depth at rows : ℕ) where
   abbrev pub BodyNoted : List ℕ → List ℕ → Type 0

@@ -1,11 +1,13 @@
 -- What the two passes answer and leave, for every text and every buffer.
-use Rattle.std.specs.Prelude.{cond, List, ℕ, leb, length, replicate}
+use Rattle.std.specs.Prelude.{cond, List, ℕ, leb, length, replicate, Result, Ok, Err}
 use Rattle.std.proofs.lemmas.List.Edits.{sets}
 use Rattle.meaning.specs.Numbers.{task_limit}
 use Rattle.meaning.specs.Text.{Job}
 use Rattle.meaning.specs.Layout.{rows_t}
 use Rattle.meaning.specs.Bytes.{job_image}
+use Rattle.translate_rows.specs.Kinds.{JobSize, Refused, Passed}
 use Rattle.text_reader.specs.Reading.{Part, got, none, bad}
+use Rattle.text_reader.specs.Answers.{fault_number}
 use Rattle.translate_rows.specs.Noted.{first_numbers}
 use Rattle.translate_rows.specs.RowsPut.{rows_put}
 
@@ -20,3 +22,8 @@ unfoldable pub rows_in : List ℕ → Part Job → List ℕ
 rows_in out (got j at rows) = cond (leb (length (job_image j)) (length out)) (rows_put out 0 (rows_t j.tasks 0)) out
 rows_in out none = out
 rows_in out (bad n place) = out
+
+-- The job's numbers, or the refusal's number and place.
+abbrev pub sizes_of : Result Passed Refused → Result JobSize (ℕ × ℕ)
+sizes_of (Ok p) = Ok p.size
+sizes_of (Err e) = Err (fault_number e.why, e.place)

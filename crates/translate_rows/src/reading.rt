@@ -4,7 +4,7 @@
 // and text_blocks.
 ghost use Rattle.std.specs.Prelude.{◌<◌, ◌≤◌};
 ghost use Rattle.meaning.specs.Numbers.{row_limit};
-ghost use Rattle.text_reader.specs.Answers.{BodyTold, BlockTold, SecondTold, IfokTold, CaseTold, CasesTold, LastTold, SelectTold, StmtTold};
+ghost use Rattle.text_reader.specs.Answers.{due_told, told_as, count_told, BodyTold, BlockTold, SecondTold, IfokTold, CaseTold, CasesTold, LastTold, SelectTold, StmtTold};
 ghost use Rattle.translate_rows.specs.Noted.{BodyNoted, StmtNoted, BlockNoted, SecondNoted, IfokNoted, SelectNoted, CaseNoted, CasesNoted, LastNoted, Unmoved};
 
 use meaning::sizes::CASES;
@@ -12,9 +12,9 @@ use meaning::Row;
 use text_blocks::{read_case_head, read_end};
 use text_heads::read_head;
 use text_reader::kinds::{DEFAULT, ELSE};
-use text_reader::{CaseHead, Counted, Head, Read};
+use text_reader::{Counted, Head, Position, Refused};
 use text_words::word_at;
-use translate_notes::{NOTES, case_head, head_of, note, op_arg, op_head};
+use translate_notes::{NOTES, RowNote, case_head, head_of, note, op_arg, op_head};
 
 // The ops of the rows that are no operation's, and the first number of those rows that have no chan.
 const CLOSE_OP: u8 = 4;
@@ -35,22 +35,19 @@ fn read_block(
     text: &[u8],
     channels: u8,
     depth: u8,
-    at: usize,
-    rows: u16,
+    from: Position,
     row: Row,
     head: u16,
     arg: u16,
     notes: &mut [u16; NOTES],
-) -> Read
-    requires { (row.0 < rows) × (row.0 < row_limit) }
-    ensures { BlockTold text.now channels depth at rows result × BlockNoted text.now channels depth at rows row.0 head arg notes.old notes.new }
+) -> Result<Position, Refused>
+    requires { (row.0 < from.rows) × (row.0 < row_limit) }
+    ensures { BlockTold text.now channels depth from.at from.rows (due_told result) × BlockNoted text.now channels depth from.at from.rows row.0 head arg notes.old notes.new }
 {
-    let body = read_body(text, channels, depth, at, rows, notes);
-    let Read::Done(behind, so_far) = body else {
-        return body;
-    };
-    note(notes, row, head, arg, so_far - row.0);
-    read_end(text, behind, so_far)
+    let body = read_body(text, channels, depth, from, notes)?;
+    let size = body.rows - row.0;
+    note(notes, row, RowNote { head, arg, size });
+    read_end(text, body)
 }
 
 // Behind the first body of the ifok at a row: `else` and a second, or none.
@@ -59,25 +56,23 @@ fn read_second(
     text: &[u8],
     channels: u8,
     depth: u8,
-    at: usize,
-    rows: u16,
+    from: Position,
     row: Row,
     notes: &mut [u16; NOTES],
-) -> Read
-    requires { (row.0 < rows) × (row.0 < row_limit) }
-    ensures { SecondTold text.now channels depth at rows result × SecondNoted text.now channels depth at rows row.0 notes.old notes.new }
+) -> Result<Position, Refused>
+    requires { (row.0 < from.rows) × (row.0 < row_limit) }
+    ensures { SecondTold text.now channels depth from.at from.rows (due_told result) × SecondNoted text.now channels depth from.at from.rows row.0 notes.old notes.new }
 {
-    let w = word_at(text, at);
-    let kind = w.kind;
-    let next = w.next;
-    let first = rows - row.0 - 1;
-    if kind == ELSE {
-        return read_block(
-            text, channels, depth, next, rows, row, IFOK_HEAD, first, notes,
-        );
+    let w = word_at(text, from.at);
+    let size = from.rows - row.0;
+    let arg = size - 1;
+    let head = IFOK_HEAD;
+    if w.kind == ELSE {
+        let second = Position { at: w.next, ..from };
+        return read_block(text, channels, depth, second, row, head, arg, notes);
     }
-    note(notes, row, IFOK_HEAD, first, rows - row.0);
-    read_end(text, at, rows)
+    note(notes, row, RowNote { head, arg, size });
+    read_end(text, from)
 }
 
 // The inside of ifok, whose row is the one ahead.
@@ -86,18 +81,14 @@ fn read_ifok(
     text: &[u8],
     channels: u8,
     depth: u8,
-    at: usize,
-    rows: u16,
+    from: Position,
     notes: &mut [u16; NOTES],
-) -> Read
-    requires { (0 < rows) × (rows ≤ row_limit) }
-    ensures { IfokTold text.now channels depth at rows result × IfokNoted text.now channels depth at rows notes.old notes.new }
+) -> Result<Position, Refused>
+    requires { (0 < from.rows) × (from.rows ≤ row_limit) }
+    ensures { IfokTold text.now channels depth from.at from.rows (due_told result) × IfokNoted text.now channels depth from.at from.rows notes.old notes.new }
 {
-    let body = read_body(text, channels, depth, at, rows, notes);
-    let Read::Done(behind, so_far) = body else {
-        return body;
-    };
-    read_second(text, channels, depth, behind, so_far, Row(rows - 1), notes)
+    let body = read_body(text, channels, depth, from, notes)?;
+    read_second(text, channels, depth, body, Row(from.rows - 1), notes)
 }
 
 // `case`, its operation and its body, where so many cases are left; nothing where no `case` stands.
@@ -106,25 +97,21 @@ fn read_case(
     text: &[u8],
     channels: u8,
     depth: u8,
-    at: usize,
-    rows: u16,
+    from: Position,
     left: u8,
     notes: &mut [u16; NOTES],
-) -> Read
-    ensures { CaseTold text.now channels depth at rows left result × CaseNoted text.now channels depth at rows left notes.old notes.new × Unmoved notes.old notes.new result }
+) -> Result<Option<Position>, Refused>
+    ensures { CaseTold text.now channels depth from.at from.rows left (told_as result) × CaseNoted text.now channels depth from.at from.rows left notes.old notes.new × Unmoved notes.old notes.new (told_as result) }
 {
-    match read_case_head(text, channels, at, rows, left) {
-        CaseHead::Refused(why, place) => Read::Refused(why, place),
-        CaseHead::Nothing => Read::Nothing,
-        CaseHead::Got(o, behind, inside) => {
-            let body = read_body(text, channels, depth, behind, inside, notes);
-            let Read::Done(_, so_far) = body else {
-                return body;
-            };
-            note(notes, Row(rows), case_head(o), op_arg(o), so_far - rows);
-            body
-        }
-    }
+    let Some(case) = read_case_head(text, channels, from, left)? else {
+        return Ok(None);
+    };
+    let body = read_body(text, channels, depth, case.body, notes)?;
+    let head = case_head(case.op);
+    let arg = op_arg(case.op);
+    let size = body.rows - from.rows;
+    note(notes, Row(from.rows), RowNote { head, arg, size });
+    Ok(Some(body))
 }
 
 // The cases of a select, counted: the place behind the last one, where `default` or `end` is due.
@@ -133,31 +120,18 @@ fn read_cases(
     text: &[u8],
     channels: u8,
     depth: u8,
-    from: usize,
-    before: u16,
+    from: Position,
     notes: &mut [u16; NOTES],
-) -> Counted
-    ensures { CasesTold text.now channels depth from before result × CasesNoted text.now channels depth from before notes.old notes.new }
+) -> Result<Counted, Refused>
+    ensures { CasesTold text.now channels depth from.at from.rows (count_told result) × CasesNoted text.now channels depth from.at from.rows notes.old notes.new }
 {
-    let mut at = from;
-    let mut rows = before;
-    let mut n: u8 = 0;
-    loop {
-        let r = read_case(text, channels, depth, at, rows, CASES - n, notes);
-        match r {
-            Read::Done(behind, so_far) => {
-                at = behind;
-                rows = so_far;
-                n = n + 1;
-            }
-            Read::Nothing => {
-                return Counted::Done(at, rows, n);
-            }
-            Read::Refused(why, place) => {
-                return Counted::Refused(why, place);
-            }
-        }
+    let mut behind = from;
+    let mut count: u8 = 0;
+    while let Some(case) = read_case(text, channels, depth, behind, CASES - count, notes)? {
+        behind = case;
+        count = count + 1;
     }
+    Ok(Counted { count, behind })
 }
 
 // Behind the n cases of the select at a row: `default` and its body, or nothing; and the note of the select.
@@ -166,29 +140,27 @@ fn read_last(
     text: &[u8],
     channels: u8,
     depth: u8,
-    at: usize,
-    rows: u16,
+    from: Position,
     row: Row,
     n: u8,
     notes: &mut [u16; NOTES],
-) -> Read
-    requires { (row.0 < rows) × (row.0 < row_limit) }
-    ensures { LastTold text.now channels depth at rows result × LastNoted text.now channels depth at rows row.0 n notes.old notes.new }
+) -> Result<Position, Refused>
+    requires { (row.0 < from.rows) × (row.0 < row_limit) }
+    ensures { LastTold text.now channels depth from.at from.rows (due_told result) × LastNoted text.now channels depth from.at from.rows row.0 n notes.old notes.new }
 {
-    let w = word_at(text, at);
-    let kind = w.kind;
-    let next = w.next;
+    let w = word_at(text, from.at);
     let head = head_of(SELECT_OP, n);
-    if kind == DEFAULT {
-        let body = read_body(text, channels, depth, next, rows, notes);
-        let Read::Done(_, so_far) = body else {
-            return body;
-        };
-        note(notes, row, head, so_far - rows + 1, so_far - row.0);
-        return body;
+    if w.kind == DEFAULT {
+        let inside = Position { at: w.next, ..from };
+        let body = read_body(text, channels, depth, inside, notes)?;
+        let arg = body.rows - from.rows + 1;
+        let size = body.rows - row.0;
+        note(notes, row, RowNote { head, arg, size });
+        return Ok(body);
     }
-    note(notes, row, head, 0, rows - row.0);
-    Read::Done(at, rows)
+    let size = from.rows - row.0;
+    note(notes, row, RowNote { head, arg: 0, size });
+    Ok(from)
 }
 
 // The inside of select, whose row is the one ahead.
@@ -197,32 +169,16 @@ fn read_select(
     text: &[u8],
     channels: u8,
     depth: u8,
-    at: usize,
-    rows: u16,
+    from: Position,
     notes: &mut [u16; NOTES],
-) -> Read
-    requires { (0 < rows) × (rows ≤ row_limit) }
-    ensures { SelectTold text.now channels depth at rows result × SelectNoted text.now channels depth at rows notes.old notes.new }
+) -> Result<Position, Refused>
+    requires { (0 < from.rows) × (from.rows ≤ row_limit) }
+    ensures { SelectTold text.now channels depth from.at from.rows (due_told result) × SelectNoted text.now channels depth from.at from.rows notes.old notes.new }
 {
-    match read_cases(text, channels, depth, at, rows, notes) {
-        Counted::Refused(why, place) => Read::Refused(why, place),
-        Counted::Done(behind, so_far, n) => {
-            let last = read_last(
-                text,
-                channels,
-                depth,
-                behind,
-                so_far,
-                Row(rows - 1),
-                n,
-                notes,
-            );
-            let Read::Done(end, in_all) = last else {
-                return last;
-            };
-            read_end(text, end, in_all)
-        }
-    }
+    let cases = read_cases(text, channels, depth, from, notes)?;
+    let row = Row(from.rows - 1);
+    let last = read_last(text, channels, depth, cases.behind, row, cases.count, notes)?;
+    read_end(text, last)
 }
 
 // One statement; nothing where no statement begins.
@@ -231,81 +187,87 @@ fn read_stmt(
     text: &[u8],
     channels: u8,
     depth: u8,
-    at: usize,
-    rows: u16,
+    from: Position,
     notes: &mut [u16; NOTES],
-) -> Read
-    ensures { StmtTold text.now channels depth at rows result × StmtNoted text.now channels depth at rows notes.old notes.new × Unmoved notes.old notes.new result }
+) -> Result<Option<Position>, Refused>
+    ensures { StmtTold text.now channels depth from.at from.rows (told_as result) × StmtNoted text.now channels depth from.at from.rows notes.old notes.new × Unmoved notes.old notes.new (told_as result) }
 {
-    match read_head(text, channels, depth, at, rows) {
-        Head::Refused(why, place) => Read::Refused(why, place),
-        Head::Nothing => Read::Nothing,
-        Head::Operate(o, next) => {
-            note(notes, Row(rows), op_head(o), op_arg(o), 1);
-            Read::Done(next, rows + 1)
+    let Some(first) = read_head(text, channels, depth, from)? else {
+        return Ok(None);
+    };
+    let row = Row(from.rows);
+    let inside = Position {
+        at: first.next,
+        rows: from.rows + 1,
+    };
+    match first.value {
+        Head::Operate(o) => {
+            let head = op_head(o);
+            note(
+                notes,
+                row,
+                RowNote {
+                    head,
+                    arg: op_arg(o),
+                    size: 1,
+                },
+            );
+            Ok(Some(inside))
         }
-        Head::Close(p, next) => {
-            note(notes, Row(rows), head_of(CLOSE_OP, u8::from(p)), 0, 1);
-            Read::Done(next, rows + 1)
+        Head::Close(p) => {
+            let head = head_of(CLOSE_OP, u8::from(p));
+            note(
+                notes,
+                row,
+                RowNote {
+                    head,
+                    arg: 0,
+                    size: 1,
+                },
+            );
+            Ok(Some(inside))
         }
-        Head::Stop(next) => {
-            note(notes, Row(rows), STOP_HEAD, 0, 1);
-            Read::Done(next, rows + 1)
+        Head::Stop => {
+            note(
+                notes,
+                row,
+                RowNote {
+                    head: STOP_HEAD,
+                    arg: 0,
+                    size: 1,
+                },
+            );
+            Ok(Some(inside))
         }
-        Head::Range(p, next) => read_block(
-            text,
-            channels,
-            depth + 1,
-            next,
-            rows + 1,
-            Row(rows),
-            head_of(RANGE_OP, u8::from(p)),
-            0,
-            notes,
-        ),
-        Head::Repeat(n, next) => read_block(
-            text,
-            channels,
-            depth + 1,
-            next,
-            rows + 1,
-            Row(rows),
-            head_of(REPEAT_OP, depth),
-            n,
-            notes,
-        ),
-        Head::Ifok(next) => read_ifok(text, channels, depth + 1, next, rows + 1, notes),
-        Head::Select(next) => read_select(text, channels, depth + 1, next, rows + 1, notes),
+        Head::Range(p) => {
+            let head = head_of(RANGE_OP, u8::from(p));
+            let end = read_block(text, channels, depth + 1, inside, row, head, 0, notes)?;
+            Ok(Some(end))
+        }
+        Head::Repeat(n) => {
+            let head = head_of(REPEAT_OP, depth);
+            let end = read_block(text, channels, depth + 1, inside, row, head, n, notes)?;
+            Ok(Some(end))
+        }
+        Head::Ifok => Ok(Some(read_ifok(text, channels, depth + 1, inside, notes)?)),
+        Head::Select => Ok(Some(read_select(text, channels, depth + 1, inside, notes)?)),
     }
 }
 
-// The statements from a place on, up to the first word that begins none.
+// The statements from a position on, up to the first word that begins none.
 #[cycle(reading)]
 pub(crate) fn read_body(
     text: &[u8],
     channels: u8,
     depth: u8,
-    from: usize,
-    before: u16,
+    from: Position,
     notes: &mut [u16; NOTES],
-) -> Read
-    ensures { BodyTold text.now channels depth from before result × BodyNoted text.now channels depth from before notes.old notes.new }
+) -> Result<Position, Refused>
+    ensures { BodyTold text.now channels depth from.at from.rows (due_told result) × BodyNoted text.now channels depth from.at from.rows notes.old notes.new }
 {
-    let mut at = from;
-    let mut rows = before;
-    loop {
-        let r = read_stmt(text, channels, depth, at, rows, notes);
-        match r {
-            Read::Done(behind, so_far) => {
-                at = behind;
-                rows = so_far;
-            }
-            Read::Nothing => {
-                return Read::Done(at, rows);
-            }
-            Read::Refused(why, place) => {
-                return Read::Refused(why, place);
-            }
-        }
+    let mut behind = from;
+    while let Some(next) = read_stmt(text, channels, depth, behind, notes)? {
+        behind = next;
     }
+    Ok(behind)
 }

@@ -17,7 +17,7 @@ use Rattle.image_row.specs.Row.{in_table, owed_after, port_good, op_good, is_cas
 use Rattle.image_check.specs.Check.{owed_at, capacity_bad, row_bad, first_row_bad, first_of, refused_at, body_checked, counts_good, checked}
 use Rattle.text_words.specs.Words.{word_at, first_not_allowed, kind_of, value_of, start_at, next_at, bytes_at, numeral, decimal, is_number, only_digits, leading_zero, place_of, differs, same_word, reserved, run, in_word, is_allowed, is_letter, is_digit, is_blank}
 use Rattle.text_reader.specs.Reading.{Part, got, none, bad, bind, many, number_by, closed_by, port_by, op_by, second_by, case_op, case_by, last_by, cases_from, stmt_by, body_from, chan_by, chans_from, task_end, task_by, tasks_from, job, reading}
-use Rattle.translate.specs.declared.Translated.TheVariants.{Refused}
+use Rattle.translate.specs.Translated.{Refused}
 use Rattle.translate.specs.Translated.{translated_to, translated, written_to, written}
 
 -- A text, the buffer's length, the translation's answer, a schedule of tasks and choices, and the events of its turns.

@@ -9,7 +9,7 @@ use Rattle.meaning.specs.Bytes.{job_image}
 use Rattle.text_reader.specs.Reading.{Part, got, none, bad, reading}
 use Rattle.text_laws.specs.Laws.Places.{refused_within}
 use Rattle.listing_answer.specs.Kinds.{Image}
-use Rattle.translate.specs.declared.Translated.TheVariants.{Refused}
+use Rattle.translate.specs.Translated.{Refused}
 use Rattle.translate.specs.Translated.{translated_to, translated}
 use Rattle.translate_rows.specs.Laws.Read.{IsJob, in_limits, image_size}
 

@@ -7,7 +7,7 @@ use native.Mathlib.Omega.{arith}
 use borrow.Author.Tests.{lt-ltb, le-ltb, ltb-false}
 use Rattle.std.proofs.Math.ListN.{take, drop, length-drop}
 use Rattle.meaning.specs.Numbers.{input_limit}
-use Rattle.translate.specs.declared.Translated.TheVariants as t
+use Rattle.translate.specs.Translated as t
 use Rattle.translate.specs.Translated.{translated, written}
 use Rattle.image_check.specs.Check.{checked}
 use Rattle.machine_records.specs.Values.{Values, changed}

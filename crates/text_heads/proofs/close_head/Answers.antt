@@ -1,10 +1,11 @@
-use Rattle.text_reader.specs.Answers.{port_part, head_of}
+use Rattle.std.proofs.lemmas.Result.{err_from_is_err_and}
+use Rattle.text_reader.specs.Answers.{due_part, head_of}
 use Rattle.text_heads.proofs.close_head.Goals as goal
 
-pub returns-in-Refused : goal.returns-in-Refused
-unfolding head_of port_part
-returns-in-Refused c = rw (c.read_port.ensures 0, c.in-Refused.is)
+pub returns-in_err-port : goal.returns-in_err-port
+unfolding head_of due_part
+returns-in_err-port c = let p = err_from_is_err_and c.from_residual.result c.from_residual.ensures.1 in rw (p.1, p.2, c.read_port.ensures 0, c.in_err-port.was)
 
-pub returns-in-Got : goal.returns-in-Got
-unfolding head_of port_part
-returns-in-Got c = rw (c.read_port.ensures 0, c.in-Got.is)
+pub returns : goal.returns
+unfolding head_of due_part
+returns c = rw (c.read_port.ensures 0, c.in_ok-port.was)

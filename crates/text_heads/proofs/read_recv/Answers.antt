@@ -1,11 +1,12 @@
+use Rattle.std.proofs.lemmas.Result.{err_from_is_err_and}
 use Rattle.text_reader.specs.Reading.{bind}
-use Rattle.text_reader.specs.Answers.{port_part, op_part}
+use Rattle.text_reader.specs.Answers.{due_part}
 use Rattle.text_heads.proofs.read_recv.Goals as goal
 
-pub returns-in-Refused : goal.returns-in-Refused
-unfolding bind port_part op_part
-returns-in-Refused c = λ rows. rw (c.read_port.ensures rows, c.in-Refused.is)
+pub returns-in_err-port : goal.returns-in_err-port
+unfolding bind due_part
+returns-in_err-port c = λ rows. let p = err_from_is_err_and c.from_residual.result c.from_residual.ensures.1 in rw (p.1, p.2, c.read_port.ensures rows, c.in_err-port.was)
 
-pub returns-in-Got : goal.returns-in-Got
-unfolding bind port_part op_part
-returns-in-Got c = λ rows. rw (c.read_port.ensures rows, c.in-Got.is)
+pub returns : goal.returns
+unfolding bind due_part
+returns c = λ rows. rw (c.read_port.ensures rows, c.in_ok-port.was)

@@ -1,15 +1,18 @@
+use Rattle.std.proofs.lemmas.Result.{err_from_is_err_and}
 use Rattle.text_reader.specs.Reading.{bind}
-use Rattle.text_reader.specs.Answers.{number_part, port_part, op_part}
+use Rattle.text_reader.specs.Answers.{due_part}
 use Rattle.text_heads.proofs.read_send.Goals as goal
 
-pub returns-in-Refused : goal.returns-in-Refused
-unfolding bind port_part number_part op_part
-returns-in-Refused c = λ rows. rw (c.read_port.ensures rows, c.in-Refused.is)
+pub returns-in_err-port : goal.returns-in_err-port
+unfolding bind due_part
+returns-in_err-port c = λ rows. let p = err_from_is_err_and c.from_residual.result c.from_residual.ensures.1 in rw (p.1, p.2, c.read_port.ensures rows, c.in_err-port.was)
 
-pub returns-in-Refused-read_number : goal.returns-in-Refused-read_number
-unfolding bind port_part number_part op_part
-returns-in-Refused-read_number c = λ rows. rw (c.read_port.ensures rows, c.in-Got.is, c.read_number.ensures rows, c.in-Refused-read_number.is)
+pub returns-in_err-number : goal.returns-in_err-number
+unfolding bind due_part
+returns-in_err-number c =
+    let p = err_from_is_err_and c.from_residual-in_err-number.result c.from_residual-in_err-number.ensures.1 in
+    λ rows. rw (p.1, p.2, c.read_port.ensures rows, c.in_ok-port.was, c.read_number.ensures rows, c.in_err-number.was)
 
-pub returns-in-Got-read_number : goal.returns-in-Got-read_number
-unfolding bind port_part number_part op_part
-returns-in-Got-read_number c = λ rows. rw (c.read_port.ensures rows, c.in-Got.is, c.read_number.ensures rows, c.in-Got-read_number.is)
+pub returns : goal.returns
+unfolding bind due_part
+returns c = λ rows. rw (c.read_port.ensures rows, c.in_ok-port.was, c.read_number.ensures rows, c.in_ok-number.was)

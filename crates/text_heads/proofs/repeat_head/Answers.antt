@@ -1,10 +1,11 @@
-use Rattle.text_reader.specs.Answers.{number_part, head_of}
+use Rattle.std.proofs.lemmas.Result.{err_from_is_err_and}
+use Rattle.text_reader.specs.Answers.{due_part, head_of}
 use Rattle.text_heads.proofs.repeat_head.Goals as goal
 
-pub returns-in-Refused : goal.returns-in-Refused
-unfolding head_of number_part
-returns-in-Refused c = rw (c.read_number.ensures 0, c.in-Refused.is)
+pub returns-in_err-laps : goal.returns-in_err-laps
+unfolding head_of due_part
+returns-in_err-laps c = let p = err_from_is_err_and c.from_residual.result c.from_residual.ensures.1 in rw (p.1, p.2, c.read_number.ensures 0, c.in_err-laps.was)
 
-pub returns-in-Got : goal.returns-in-Got
-unfolding head_of number_part
-returns-in-Got c = rw (c.read_number.ensures 0, c.in-Got.is)
+pub returns : goal.returns
+unfolding head_of due_part
+returns c = rw (c.read_number.ensures 0, c.in_ok-laps.was)

@@ -1,13 +1,9 @@
-use mathlib.Core.Path.{refl, sym, ◌∙◌}
+use mathlib.Core.Path.{◌≡◌, sym, ◌∙◌}
 use native.Mathlib.Omega.{arith}
-use borrow.Author.Rules.{rules}
-use borrow.Author.Tests.{eq-eqb, ne_eqb}
+use borrow.Author.Tests.{eq-eqb, ne_eqb, lt-ltb}
 use Rattle.text_keys.specs.Keys.{row_key, row_size, place_in}
 use Rattle.text_keys.proofs.Laws.{search_more, search_found, search_none}
 use Rattle.text_keys.proofs.place_in.Goals as goal
-
-pub loop-k-init : goal.loop-k-init
-loop-k-init c = (search rules, refl)
 
 pub returns-then-length-wide : goal.returns-then-length-wide
 unfolding place_in
@@ -17,7 +13,7 @@ returns-then-length-wide c =
     let a = c.args in
     let e = c.if-key-key_of.true ∙ c.key_of.ensures in
     let same = c.if-length-wide.true ∙ c.wide.ensures in
-    rw (search_found (row_key a.words a.lengths) a.key l.k (row_size a.lengths) a.length l.invariant.1 h e, eq-eqb _ _ same)
+    rw (search_found (row_key a.words a.lengths) a.key l.k (row_size a.lengths) a.length l.invariant h e, eq-eqb _ _ same, lt-ltb _ _ h)
 
 pub returns-else-length-wide : goal.returns-else-length-wide
 unfolding place_in
@@ -26,19 +22,18 @@ returns-else-length-wide c =
     let h = c.loop-k-test.true in
     let a = c.args in
     let e = c.if-key-key_of.true ∙ c.key_of.ensures in
-    rw (search_found (row_key a.words a.lengths) a.key l.k (row_size a.lengths) a.length l.invariant.1 h e, ne_eqb a.length (row_size a.lengths l.k) (λ z. c.if-length-wide.false (z ∙ sym c.wide.ensures)))
+    rw (search_found (row_key a.words a.lengths) a.key l.k (row_size a.lengths) a.length l.invariant h e, ne_eqb a.length (row_size a.lengths l.k) (λ z. c.if-length-wide.false (z ∙ sym c.wide.ensures)))
 
 pub loop-k-preserved : goal.loop-k-preserved
 loop-k-preserved c =
     let l = c.loop-k in
-    let h = c.loop-k-test.true in
     let a = c.args in
-    let m = search_more (row_key a.words a.lengths) a.key l.k h (λ e. c.if-key-key_of.false (e ∙ sym c.key_of.ensures)) in
-    (search rules, m ∙ l.invariant.1)
+    search_more (row_key a.words a.lengths) a.key l.k c.loop-k-test.true (λ e. c.if-key-key_of.false (e ∙ sym c.key_of.ensures)) ∙ l.invariant
 
 pub returns : goal.returns
 unfolding place_in
 returns c =
     let l = c.loop-k in
     let a = c.args in
-    search_none (row_key a.words a.lengths) a.key l.k (row_size a.lengths) a.length l.invariant.1 (omega arith)
+    let e : l.k ≡ 16 = omega arith in
+    rw (← search_none (row_key a.words a.lengths) a.key l.k (row_size a.lengths) a.length l.invariant e, e)

@@ -1,8 +1,8 @@
 -- Two words of one length, eight bytes at most, are equal if their keys are; and what a search finds. Assumes nothing.
-use Rattle.std.specs.Prelude.{◌≡◌, refl, Bool, true, false, cond, List, [], ◌∷◌, ℕ, zero, suc, ◌+◌, ◌-◌, ◌*◌, ◌^◌, ◌%◌, ◌≤◌, ◌<◌, eqb, length, get_or}
-use Rattle.std.proofs.Common.{ap, pow-suc, arith, eqb-true}
+use Rattle.std.specs.Prelude.{◌≡◌, refl, Bool, true, false, cond, List, [], ◌∷◌, ℕ, zero, suc, ◌+◌, ◌-◌, ◌*◌, ◌^◌, ◌%◌, ◌≤◌, ◌<◌, eqb, ltb, length, get_or, Option, Some, None}
+use Rattle.std.proofs.Common.{ap, pow-suc, arith, eqb-true, ltb-true, ltb-false}
 use Rattle.std.proofs.Math.Nat.{pow-le-pow_right, one-le-pow}
-use Rattle.text_keys.specs.Keys.{key_more, gathered, key_of, first_from, keyed, searched}
+use Rattle.text_keys.specs.Keys.{key_more, gathered, key_of, first_from, keyed, searched, found}
 
 -- BYTES
 
@@ -93,3 +93,19 @@ unfolding searched
 searched_same keys keys' sizes sizes' key n e f =
     let s = from_same (keyed keys key) (keyed keys' key) 16 0 (λ i h. ap (eqb key) (e i h)) in
     rw (s, f (first_from (keyed keys' key) 16 0) (omega (arith, from_within (keyed keys' key) 16 0)))
+
+-- WHAT IS FOUND
+
+pub found_some : (m : ℕ) {k : ℕ} → Some k ≡ found m → (m ≡ k) × (m < 16)
+found_some m {k} = go (ltb m 16) refl
+  where
+    go : (b : Bool) → ltb m 16 ≡ b → Some k ≡ cond b (Some m) None → (m ≡ k) × (m < 16)
+    go true e q = (cc, ltb-true m 16 e)
+    go false e q = absurd (let z : ◌≡◌ {A = ℕ} 0 1 = cc in omega arith)
+
+pub found_none : (m : ℕ) → None ≡ found m → 16 ≤ m
+found_none m = go (ltb m 16) refl
+  where
+    go : (b : Bool) → ltb m 16 ≡ b → ◌≡◌ {A = Option ℕ} None (cond b (Some m) None) → 16 ≤ m
+    go true e q = absurd (let z : ◌≡◌ {A = ℕ} 0 1 = cc in omega arith)
+    go false e q = ltb-false m 16 e

@@ -1,8 +1,8 @@
 -- Every text that the reader accepts is a proper job, whose rows the reader has counted; so its image passes the image check,
 -- gives the same turns as the text, and has the length that those rows call for.
-use Rattle.std.specs.Prelude.{◌≡◌, List, ◌++◌, map, ℕ, ◌+◌, ◌≤◌, length, Ok}
+use Rattle.std.specs.Prelude.{◌≡◌, List, ◌++◌, map, ℕ, ◌+◌, ◌≤◌, length, Option, Some, None, Ok}
 use Rattle.std.proofs.Common.{ap, sym, subst, ◌∙◌}
-use Rattle.text_laws.specs.Kinds.{Task, Nowhere}
+use Rattle.text_laws.specs.Kinds.{Task}
 use Rattle.meaning.specs.Numbers.{text_limit}
 use Rattle.meaning.specs.Machine.{runs, seen_turn}
 use Rattle.meaning.specs.Text.{Job, text_look, text_start}
@@ -28,9 +28,9 @@ reading_proper s j at rows =
     (λ _ _ e. let k = (subst (Kept s Anywhere JobRead) e (job_kept s Anywhere (λ _. tt) tt)).1 in (k.proper, k.rows))
 
 -- The text itself: not too long, and with no byte that is not allowed.
-pub reading_plain : (s : List ℕ) (j : Job) (at rows : ℕ) → reading s ≡ got j at rows → (length s ≤ text_limit) × (first_not_allowed s ≡ Nowhere)
+pub reading_plain : (s : List ℕ) (j : Job) (at rows : ℕ) → reading s ≡ got j at rows → (length s ≤ text_limit) × (first_not_allowed s ≡ None)
 reading_plain s j at rows =
-    reading_ways s (λ p. p ≡ got j at rows → (length s ≤ text_limit) × (first_not_allowed s ≡ Nowhere))
+    reading_ways s (λ p. p ≡ got j at rows → (length s ≤ text_limit) × (first_not_allowed s ≡ None))
     (λ _ e. absurd (bad_got e))
     (λ _ _ _ e. absurd (bad_got e))
     (λ l q _. (l, q))

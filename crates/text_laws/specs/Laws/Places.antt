@@ -1,5 +1,5 @@
 -- What a refusal says of a text: its number, and the place that the table 'given when / place' names for that number.
-use Rattle.std.specs.Prelude.{◌≡◌, Bool, false, List, eqb, leb, get_or, drop}
+use Rattle.std.specs.Prelude.{◌≡◌, Bool, false, List, eqb, leb, get_or, drop, Option, Some, None}
 use Rattle.std.proofs.Math.Path.{refl, sym, ap, subst}
 use Rattle.std.proofs.Common.{◌∙◌, true≢false}
 use Rattle.std.proofs.Math.Bool.{true}
@@ -10,7 +10,6 @@ use borrow.Author.Tests.{eqb-true, eqb-false, leb-true, leb-false, not-false}
 use Rattle.std.proofs.Math.ListN.{length, length-drop}
 use Rattle.std.proofs.Math.Seq.{get_or-drop}
 use Rattle.meaning.specs.Numbers.{text_limit, text_too_long, byte_not_allowed, word_out_of_place, rows_full, cut_short, no_task_given}
-use Rattle.text_laws.specs.Kinds.{Nowhere, At}
 use Rattle.text_words.specs.Words.{no_kind, is_blank, is_allowed, in_word, run, start_at, next_at, bytes_at, word_at, first_not_allowed}
 use Rattle.text_words.specs.Laws.Words.{run_stop, run_passes, run_stops, start_no_blank, word_place, first_bad}
 use Rattle.text_reader.specs.Reading.{bad, reading}
@@ -85,8 +84,8 @@ pub record Refused (s : List ℕ) (n place : ℕ) : Type 0 where
   pub most : n ≤ no_task_given
   pub long : n ≡ text_too_long → (place ≡ 0) × (text_limit < length s)
   pub short : text_too_long < n → length s ≤ text_limit
-  pub byte : n ≡ byte_not_allowed → first_not_allowed s ≡ At place
-  pub allowed : byte_not_allowed < n → first_not_allowed s ≡ Nowhere
+  pub byte : n ≡ byte_not_allowed → first_not_allowed s ≡ Some place
+  pub allowed : byte_not_allowed < n → first_not_allowed s ≡ None
   pub word : word_out_of_place ≤ n → n ≤ rows_full → WordRefused s n place
   pub ended : cut_short ≤ n → place ≡ length s
 
@@ -114,7 +113,7 @@ reading_refused s n place =
       most = omega arith;
       long = λ h. absurd (omega arith);
       short = λ _. l;
-      byte = λ _. q ∙ ap At b;
+      byte = λ _. q ∙ ap Some b;
       allowed = λ h. absurd (omega arith);
       word = λ h. absurd (omega arith);
       ended = λ h. absurd (omega arith);

@@ -1,6 +1,6 @@
 -- The reader walked once, for every text: each of its parts keeps to what is said of it. One lemma serves every choice between two ways,
 -- one every part behind another.
-use Rattle.std.specs.Prelude.{◌≡◌, Bool, cond, List, [], ◌∷◌, eqb, leb, ltb}
+use Rattle.std.specs.Prelude.{◌≡◌, Bool, cond, List, [], ◌∷◌, eqb, leb, ltb, Option, Some, None}
 use Rattle.std.proofs.Math.Path.{refl}
 use Rattle.std.proofs.Math.Bool.{true, false}
 use Prim.Native.Nat.{ℕ, zero, suc, ◌+◌, ◌-◌, ◌≤◌, ◌<◌}
@@ -8,7 +8,7 @@ use Rattle.std.proofs.Math.Numerals.{add-one}
 use native.Mathlib.Omega.{arith}
 use borrow.Author.Tests.{eqb-true, eqb-false, leb-true, ltb-true, ltb-false}
 use Rattle.std.proofs.Math.ListN.{length}
-use Rattle.text_laws.specs.Kinds.{Op, Place, Nowhere, At}
+use Rattle.text_laws.specs.Kinds.{Op}
 use Rattle.meaning.specs.Numbers.{text_limit, channel_limit, capacity_limit, task_limit, case_limit, value_limit, lap_limit, depth_limit, row_limit, text_too_long, byte_not_allowed, word_out_of_place, number_due, number_over_range, one_too_many, too_deep, rows_full, cut_short, no_task_given}
 use Rattle.meaning.specs.Text.{Stmt, range, repeat, ifok, select, Body, empty, Cases, Job}
 use Rattle.meaning.specs.Layout.{case_count, size_s, size_b, size_c, rows_t}
@@ -319,14 +319,14 @@ module _ (s : List ℕ) (Edge : ℕ → Type 0) (behind : (at : ℕ) → Edge (w
 
 module _ (s : List ℕ) where
   -- The three ways of a reading, in the order of the table: 1, then 2 over the whole text, then the words.
-  pub reading_ways : (P : Part Job → Type 0) → (text_limit < length s → P (bad text_too_long 0)) → ((i : ℕ) → length s ≤ text_limit → first_not_allowed s ≡ At i → P (bad byte_not_allowed i))
-      → (length s ≤ text_limit → first_not_allowed s ≡ Nowhere → P (job s)) → P (reading s)
+  pub reading_ways : (P : Part Job → Type 0) → (text_limit < length s → P (bad text_too_long 0)) → ((i : ℕ) → length s ≤ text_limit → first_not_allowed s ≡ Some i → P (bad byte_not_allowed i))
+      → (length s ≤ text_limit → first_not_allowed s ≡ None → P (job s)) → P (reading s)
   unfolding reading
   reading_ways P a b c =
       cond_all (λ (g : ℕ → Part Job). P (g 0)) (ltb text_limit (length s))
       (λ t. a (ltb-true _ _ t))
       (λ t. go (first_not_allowed s) refl (ltb-false _ _ t))
     where
-      go : (p : Place) → first_not_allowed s ≡ p → length s ≤ text_limit → P (allowed_by s p 0)
-      go Nowhere e l = c l e
-      go (At i) e l = b i l e
+      go : (p : Option ℕ) → first_not_allowed s ≡ p → length s ≤ text_limit → P (allowed_by s p 0)
+      go None e l = c l e
+      go (Some i) e l = b i l e

@@ -192,28 +192,28 @@ module _ (rows : ℕ) where
 
 module _ (s : List ℕ) (channels : ℕ) where
   -- The operands of a head and the place behind them, behind its first word w. No head, or a refusal, is the statement's own.
-  abbrev pub Operands : Word → Head → Type 0
-  Operands w (Head.Operate o next) = (is_op w.kind ≡ true) × ((rows : ℕ) → op_by s channels rows w ≡ got o next rows)
-  Operands w (Head.Close p next) = (w.kind ≡ close_kind) × ((rows : ℕ) → port s channels w.next rows ≡ got p next rows)
-  Operands w (Head.Stop next) = (w.kind ≡ stop_kind) × (next ≡ w.next)
-  Operands w (Head.Range p next) = (w.kind ≡ range_kind) × ((rows : ℕ) → port s channels w.next rows ≡ got p next rows)
-  Operands w (Head.Repeat n next) = (w.kind ≡ repeat_kind) × ((rows : ℕ) → number s lap_limit w.next rows ≡ got n next rows)
-  Operands w (Head.Ifok next) = (w.kind ≡ ifok_kind) × (next ≡ w.next)
-  Operands w (Head.Select next) = (w.kind ≡ select_kind) × (next ≡ w.next)
-  Operands w Head.Nothing = (sub : ℕ → ℕ → Part Body) (depth rows : ℕ) → is_too_deep w.kind depth ≡ false → rows < row_limit → stmt_by s channels sub depth w rows ≡ none
-  Operands w (Head.Refused n place) = (sub : ℕ → ℕ → Part Body) (depth rows : ℕ) → is_too_deep w.kind depth ≡ false → rows < row_limit → stmt_by s channels sub depth w rows ≡ bad n place
+  abbrev pub Operands : Word → Part Head → Type 0
+  Operands w (got (Head.Operate o) next m) = (is_op w.kind ≡ true) × ((rows : ℕ) → op_by s channels rows w ≡ got o next rows)
+  Operands w (got (Head.Close p) next m) = (w.kind ≡ close_kind) × ((rows : ℕ) → port s channels w.next rows ≡ got p next rows)
+  Operands w (got Head.Stop next m) = (w.kind ≡ stop_kind) × (next ≡ w.next)
+  Operands w (got (Head.Range p) next m) = (w.kind ≡ range_kind) × ((rows : ℕ) → port s channels w.next rows ≡ got p next rows)
+  Operands w (got (Head.Repeat n) next m) = (w.kind ≡ repeat_kind) × ((rows : ℕ) → number s lap_limit w.next rows ≡ got n next rows)
+  Operands w (got Head.Ifok next m) = (w.kind ≡ ifok_kind) × (next ≡ w.next)
+  Operands w (got Head.Select next m) = (w.kind ≡ select_kind) × (next ≡ w.next)
+  Operands w none = (sub : ℕ → ℕ → Part Body) (depth rows : ℕ) → is_too_deep w.kind depth ≡ false → rows < row_limit → stmt_by s channels sub depth w rows ≡ none
+  Operands w (bad n place) = (sub : ℕ → ℕ → Part Body) (depth rows : ℕ) → is_too_deep w.kind depth ≡ false → rows < row_limit → stmt_by s channels sub depth w rows ≡ bad n place
 
   -- The same with the limits: a head has a row left, and a block's head room for one block more.
-  abbrev pub HeadIs : ℕ → ℕ → Word → Head → Type 0
-  HeadIs depth rows w (Head.Operate o next) = (rows < row_limit) × Operands w (Head.Operate o next)
-  HeadIs depth rows w (Head.Close p next) = (rows < row_limit) × Operands w (Head.Close p next)
-  HeadIs depth rows w (Head.Stop next) = (rows < row_limit) × Operands w (Head.Stop next)
-  HeadIs depth rows w (Head.Range p next) = (depth < depth_limit) × (rows < row_limit) × Operands w (Head.Range p next)
-  HeadIs depth rows w (Head.Repeat n next) = (depth < depth_limit) × (rows < row_limit) × Operands w (Head.Repeat n next)
-  HeadIs depth rows w (Head.Ifok next) = (depth < depth_limit) × (rows < row_limit) × Operands w (Head.Ifok next)
-  HeadIs depth rows w (Head.Select next) = (depth < depth_limit) × (rows < row_limit) × Operands w (Head.Select next)
-  HeadIs depth rows w Head.Nothing = (sub : ℕ → ℕ → Part Body) → stmt_by s channels sub depth w rows ≡ none
-  HeadIs depth rows w (Head.Refused n place) = (sub : ℕ → ℕ → Part Body) → stmt_by s channels sub depth w rows ≡ bad n place
+  abbrev pub HeadIs : ℕ → ℕ → Word → Part Head → Type 0
+  HeadIs depth rows w (got (Head.Operate o) next m) = (rows < row_limit) × Operands w (got (Head.Operate o) next m)
+  HeadIs depth rows w (got (Head.Close p) next m) = (rows < row_limit) × Operands w (got (Head.Close p) next m)
+  HeadIs depth rows w (got Head.Stop next m) = (rows < row_limit) × Operands w (got Head.Stop next m)
+  HeadIs depth rows w (got (Head.Range p) next m) = (depth < depth_limit) × (rows < row_limit) × Operands w (got (Head.Range p) next m)
+  HeadIs depth rows w (got (Head.Repeat n) next m) = (depth < depth_limit) × (rows < row_limit) × Operands w (got (Head.Repeat n) next m)
+  HeadIs depth rows w (got Head.Ifok next m) = (depth < depth_limit) × (rows < row_limit) × Operands w (got Head.Ifok next m)
+  HeadIs depth rows w (got Head.Select next m) = (depth < depth_limit) × (rows < row_limit) × Operands w (got Head.Select next m)
+  HeadIs depth rows w none = (sub : ℕ → ℕ → Part Body) → stmt_by s channels sub depth w rows ≡ none
+  HeadIs depth rows w (bad n place) = (sub : ℕ → ℕ → Part Body) → stmt_by s channels sub depth w rows ≡ bad n place
 
   module _ (w : Word) where
     operate_operands : is_op w.kind ≡ true → (p : Part Op) → ((rows : ℕ) → op_by s channels rows w ≡ at_rows rows p) → Operands w (head_of Head.Operate p)
@@ -257,16 +257,16 @@ module _ (s : List ℕ) (channels : ℕ) where
       block_depth : (k : ℕ) → is_block k ≡ true → w.kind ≡ k → is_too_deep w.kind depth ≡ false → depth < depth_limit
       block_depth k b e d = not_deep k depth b (rw e at d)
 
-      head_within : is_too_deep w.kind depth ≡ false → rows < row_limit → (r : Head) → Operands w r → HeadIs depth rows w r
-      head_within d h (Head.Operate o next) f = (h, f)
-      head_within d h (Head.Close p next) f = (h, f)
-      head_within d h (Head.Stop next) f = (h, f)
-      head_within d h (Head.Range p next) f = (block_depth range_kind refl f.0 d, h, f)
-      head_within d h (Head.Repeat n next) f = (block_depth repeat_kind refl f.0 d, h, f)
-      head_within d h (Head.Ifok next) f = (block_depth ifok_kind refl f.0 d, h, f)
-      head_within d h (Head.Select next) f = (block_depth select_kind refl f.0 d, h, f)
-      head_within d h Head.Nothing f = λ sub. f sub depth rows d h
-      head_within d h (Head.Refused n place) f = λ sub. f sub depth rows d h
+      head_within : is_too_deep w.kind depth ≡ false → rows < row_limit → (r : Part Head) → Operands w r → HeadIs depth rows w r
+      head_within d h (got (Head.Operate o) next m) f = (h, f)
+      head_within d h (got (Head.Close p) next m) f = (h, f)
+      head_within d h (got Head.Stop next m) f = (h, f)
+      head_within d h (got (Head.Range p) next m) f = (block_depth range_kind refl f.0 d, h, f)
+      head_within d h (got (Head.Repeat n) next m) f = (block_depth repeat_kind refl f.0 d, h, f)
+      head_within d h (got Head.Ifok next m) f = (block_depth ifok_kind refl f.0 d, h, f)
+      head_within d h (got Head.Select next m) f = (block_depth select_kind refl f.0 d, h, f)
+      head_within d h none f = λ sub. f sub depth rows d h
+      head_within d h (bad n place) f = λ sub. f sub depth rows d h
 
       pub head_is : HeadIs depth rows w (head_by s channels depth rows w)
       unfolding head_by
@@ -278,32 +278,42 @@ module _ (s : List ℕ) (channels : ℕ) where
           (λ e sub. no_statement s channels sub depth w rows e)
 
 -- The statement that a head begins.
-abbrev pub stmt_of : List ℕ → ℕ → (ℕ → ℕ → Part Body) → ℕ → Head → Part Stmt
-stmt_of s channels sub rows (Head.Operate o next) = got (operate o) next (rows + 1)
-stmt_of s channels sub rows (Head.Close p next) = got (close p) next (rows + 1)
-stmt_of s channels sub rows (Head.Stop next) = got stop next (rows + 1)
-stmt_of s channels sub rows (Head.Range p next) = bind (sub next (rows + 1)) (λ b at r. closed s (range p b) at r)
-stmt_of s channels sub rows (Head.Repeat n next) = bind (sub next (rows + 1)) (λ b at r. closed s (repeat n b) at r)
-stmt_of s channels sub rows (Head.Ifok next) = bind (sub next (rows + 1)) (λ b at r. second_by s channels sub b at (word_at s at) r)
-stmt_of s channels sub rows (Head.Select next) = bind (cases_from s channels sub case_limit next (rows + 1)) (λ cs at r. closed s (select cs) at r)
-stmt_of s channels sub rows Head.Nothing = none
-stmt_of s channels sub rows (Head.Refused n place) = bad n place
+abbrev pub stmt_of : List ℕ → ℕ → (ℕ → ℕ → Part Body) → ℕ → Part Head → Part Stmt
+stmt_of s channels sub rows (got (Head.Operate o) next m) = got (operate o) next (rows + 1)
+stmt_of s channels sub rows (got (Head.Close p) next m) = got (close p) next (rows + 1)
+stmt_of s channels sub rows (got Head.Stop next m) = got stop next (rows + 1)
+stmt_of s channels sub rows (got (Head.Range p) next m) = bind (sub next (rows + 1)) (λ b at r. closed s (range p b) at r)
+stmt_of s channels sub rows (got (Head.Repeat n) next m) = bind (sub next (rows + 1)) (λ b at r. closed s (repeat n b) at r)
+stmt_of s channels sub rows (got Head.Ifok next m) = bind (sub next (rows + 1)) (λ b at r. second_by s channels sub b at (word_at s at) r)
+stmt_of s channels sub rows (got Head.Select next m) = bind (cases_from s channels sub case_limit next (rows + 1)) (λ cs at r. closed s (select cs) at r)
+stmt_of s channels sub rows none = none
+stmt_of s channels sub rows (bad n place) = bad n place
 
 module _ (s : List ℕ) (channels depth at rows : ℕ) where
-  pub head_told : {v i : Head} → v ≡ i → HeadTold s channels depth at rows v → HeadIs s channels depth rows (word_at s at) i
+  pub head_told : {v i : Part Head} → v ≡ i → HeadTold s channels depth at rows v → HeadIs s channels depth rows (word_at s at) i
   head_told e h = rw (sym h ∙ e) at (head_is s channels (word_at s at) depth rows)
 
-  pub stmt_of_lem : (sub : ℕ → ℕ → Part Body) (i : Head) → HeadIs s channels depth rows (word_at s at) i → stmt_of s channels sub rows i ≡ stmt_by s channels sub depth (word_at s at) rows
+  pub stmt_of_lem : (sub : ℕ → ℕ → Part Body) (i : Part Head) → HeadIs s channels depth rows (word_at s at) i → stmt_of s channels sub rows i ≡ stmt_by s channels sub depth (word_at s at) rows
   unfolding bind
-  stmt_of_lem sub (Head.Operate o next) (h, (e, f)) = sym (operate_read s channels sub depth (word_at s at) rows h e ∙ rw (f (rows + 1)))
-  stmt_of_lem sub (Head.Close p next) (h, (e, f)) = sym (close_read s channels sub depth (word_at s at) rows h e ∙ rw (f (rows + 1)))
-  stmt_of_lem sub (Head.Stop next) (h, (e, f)) = sym (stop_read s channels sub depth (word_at s at) rows h e ∙ rw f)
-  stmt_of_lem sub (Head.Range p next) (l, h, (e, f)) = sym (range_read s channels sub depth (word_at s at) rows h l e ∙ rw (f (rows + 1)))
-  stmt_of_lem sub (Head.Repeat n next) (l, h, (e, f)) = sym (repeat_read s channels sub depth (word_at s at) rows h l e ∙ rw (f (rows + 1)))
-  stmt_of_lem sub (Head.Ifok next) (l, h, (e, f)) = sym (ifok_read s channels sub depth (word_at s at) rows h l e ∙ rw f)
-  stmt_of_lem sub (Head.Select next) (l, h, (e, f)) = sym (select_read s channels sub depth (word_at s at) rows h l e ∙ rw f)
-  stmt_of_lem sub Head.Nothing h = sym (h sub)
-  stmt_of_lem sub (Head.Refused n place) h = sym (h sub)
+  stmt_of_lem sub (got (Head.Operate o) next m) (h, (e, f)) = sym (operate_read s channels sub depth (word_at s at) rows h e ∙ rw (f (rows + 1)))
+  stmt_of_lem sub (got (Head.Close p) next m) (h, (e, f)) = sym (close_read s channels sub depth (word_at s at) rows h e ∙ rw (f (rows + 1)))
+  stmt_of_lem sub (got Head.Stop next m) (h, (e, f)) = sym (stop_read s channels sub depth (word_at s at) rows h e ∙ rw f)
+  stmt_of_lem sub (got (Head.Range p) next m) (l, h, (e, f)) = sym (range_read s channels sub depth (word_at s at) rows h l e ∙ rw (f (rows + 1)))
+  stmt_of_lem sub (got (Head.Repeat n) next m) (l, h, (e, f)) = sym (repeat_read s channels sub depth (word_at s at) rows h l e ∙ rw (f (rows + 1)))
+  stmt_of_lem sub (got Head.Ifok next m) (l, h, (e, f)) = sym (ifok_read s channels sub depth (word_at s at) rows h l e ∙ rw f)
+  stmt_of_lem sub (got Head.Select next m) (l, h, (e, f)) = sym (select_read s channels sub depth (word_at s at) rows h l e ∙ rw f)
+  stmt_of_lem sub none h = sym (h sub)
+  stmt_of_lem sub (bad n place) h = sym (h sub)
 
-  pub head_stmt : {v i : Head} → v ≡ i → HeadTold s channels depth at rows v → (sub : ℕ → ℕ → Part Body) → told (stmt_of s channels sub rows i) ≡ told (stmt_by s channels sub depth (word_at s at) rows)
+  pub head_stmt : {v i : Part Head} → v ≡ i → HeadTold s channels depth at rows v → (sub : ℕ → ℕ → Part Body) → told (stmt_of s channels sub rows i) ≡ told (stmt_by s channels sub depth (word_at s at) rows)
   head_stmt {v} {i} e h sub = ap told (stmt_of_lem sub i (head_told e h))
+
+  -- Every head has a row left.
+  pub head_row : (h : Head) (next m : ℕ) → HeadIs s channels depth rows (word_at s at) (got h next m) → rows < row_limit
+  head_row (Head.Operate o) next m f = f.0
+  head_row (Head.Close p) next m f = f.0
+  head_row Head.Stop next m f = f.0
+  head_row (Head.Range p) next m f = f.1
+  head_row (Head.Repeat n) next m f = f.1
+  head_row Head.Ifok next m f = f.1
+  head_row Head.Select next m f = f.1

@@ -1,10 +1,9 @@
 -- Parts in a row: what a row is by the part ahead, what is counted of it, and what holds of it. Assumes nothing.
-use Rattle.std.specs.Prelude.{◌≡◌, refl}
+use Rattle.std.specs.Prelude.{◌≡◌, refl, ⊤}
 use Rattle.std.proofs.Common.{sym, ◌∙◌}
 use Rattle.std.proofs.Math.Path.{ap}
 use Prim.Native.Nat.{ℕ, zero, suc, ◌+◌, ◌-◌}
 use native.Mathlib.Omega.{arith}
-use Rattle.text_reader.specs.Kinds.{Read, Counted}
 use Rattle.text_reader.specs.Reading.{Part, got, none, bad, bind, ahead, many}
 use Rattle.text_reader.specs.Answers.{told, counted}
 use Rattle.text_reader.specs.Laws.Parts.{bad_got, bind_got, told_got, told_none, told_bad, Stops, Holds, bind_holds, Sure, bind_sure}
@@ -58,9 +57,9 @@ counted_more size n (got x at r) f h = let q = h x in let e : n + 1 + size x ≡
 counted_more size n none f h = refl
 counted_more size n (bad m place) f h = refl
 
-module _ {A B : Type 0} (join : A → B → B) (one : ℕ → ℕ → ℕ → Part A) (end : ℕ → ℕ → Part B) (size : B → ℕ) (left at rows n : ℕ) {v : Read} where
+module _ {A B : Type 0} (join : A → B → B) (one : ℕ → ℕ → ℕ → Part A) (end : ℕ → ℕ → Part B) (size : B → ℕ) (left at rows n : ℕ) {v : Part ⊤} where
   -- One more, where `size` counts a part.
-  pub many_more : {a r : ℕ} → v ≡ Read.Done a r → v ≡ told (one left at rows) → ((x : A) (b : B) → size (join x b) ≡ suc (size b)) → (j : ℕ) → suc j ≡ left
+  pub many_more : {a r : ℕ} → v ≡ got tt a r → v ≡ told (one left at rows) → ((x : A) (b : B) → size (join x b) ≡ suc (size b)) → (j : ℕ) → suc j ≡ left
       → counted size (n + 1) (many join one end j a r) ≡ counted size n (many join one end left at rows)
   many_more {a} {r} e h k j q =
       let m = many_is join one end left in
@@ -68,21 +67,21 @@ module _ {A B : Type 0} (join : A → B → B) (one : ℕ → ℕ → ℕ → Pa
       rw (m.2 at rows, g.1, m.1 j q) (counted_more size n (many join one end j a r) (join g.0) (k g.0))
 
   -- The end, which counts nothing.
-  pub many_end : (x : B) → size x ≡ 0 → end at rows ≡ got x at rows → v ≡ Read.Nothing → v ≡ told (one left at rows)
-      → Counted.Done at rows n ≡ counted size n (many join one end left at rows)
+  pub many_end : (x : B) → size x ≡ 0 → end at rows ≡ got x at rows → v ≡ none → v ≡ told (one left at rows)
+      → got n at rows ≡ counted size n (many join one end left at rows)
   unfolding counted
   many_end x z f e h =
       let q : n ≡ n + size x = omega arith in
-      rw ((many_is join one end left).2 at rows, told_none (one left at rows) (sym e ∙ h), f) (ap (Counted.Done at rows) q)
+      rw ((many_is join one end left).2 at rows, told_none (one left at rows) (sym e ∙ h), f) (ap (λ (m : ℕ). got m at rows) q)
 
   -- A refusal.
-  pub many_bad : {m place : ℕ} → v ≡ Read.Refused m place → v ≡ told (one left at rows)
-      → Counted.Refused m place ≡ counted size n (many join one end left at rows)
+  pub many_bad : {m place : ℕ} → v ≡ bad m place → v ≡ told (one left at rows)
+      → bad m place ≡ counted size n (many join one end left at rows)
   unfolding counted
   many_bad e h = rw ((many_is join one end left).2 at rows, told_bad (one left at rows) (sym e ∙ h))
 
 -- What was counted is there.
-pub counted_done : {A : Type 0} (size : A → ℕ) (p : Part A) {a r n : ℕ} → Counted.Done a r n ≡ counted size 0 p → (x : A) × (p ≡ got x a r) × (n ≡ size x)
+pub counted_done : {A : Type 0} (size : A → ℕ) (p : Part A) {a r n : ℕ} → got n a r ≡ counted size 0 p → (x : A) × (p ≡ got x a r) × (n ≡ size x)
 unfolding counted
 counted_done size (got x a r) {n = n} e = (x, cc, let z : n ≡ 0 + size x = cc in omega arith)
 counted_done size none e = absurd (let z : ◌≡◌ {A = ℕ} 0 1 = cc in omega arith)

@@ -1,12 +1,12 @@
 -- A part of the text: what is told of it, and what holds of it. Assumes nothing.
-use Rattle.std.specs.Prelude.{◌≡◌, refl, Bool, true, false, cond, List, ℕ, ◌+◌, ◌<◌, eqb, ltb, length}
+use Rattle.std.specs.Prelude.{◌≡◌, refl, Bool, true, false, cond, List, ℕ, ◌+◌, ◌<◌, eqb, ltb, length, ⊤}
 use Rattle.std.proofs.Common.{sym, ◌∙◌, arith, ltb-true}
 use Rattle.meaning.specs.Numbers.{depth_limit, row_limit, word_out_of_place, too_deep, rows_full, cut_short}
 use Rattle.meaning.specs.Laws.Tests.{cond_all}
-use Rattle.text_reader.specs.Kinds.{Word, Read}
+use Rattle.text_reader.specs.Kinds.{Word, Refused}
 use Rattle.text_words.specs.Words.{no_kind}
 use Rattle.text_reader.specs.Reading.{Part, got, none, bad, bind, misplaced, with_row, as_block}
-use Rattle.text_reader.specs.Answers.{told, out_of_place}
+use Rattle.text_reader.specs.Answers.{refusal, told, out_of_place}
 
 -- A PART THAT IS THERE
 
@@ -27,45 +27,45 @@ bind_got (bad n place) f e = absurd (bad_got e)
 
 -- WHAT IS TOLD OF A PART
 
-pub done_told : {A : Type 0} (x : A) (at rows : ℕ) → Read.Done at rows ≡ told (got x at rows)
+pub done_told : {A : Type 0} (x : A) (at rows : ℕ) → got tt at rows ≡ told (got x at rows)
 unfolding told
 done_told x at rows = refl
 
-pub nothing_told : (A : Type 0) → Read.Nothing ≡ told {A = A} none
+pub nothing_told : (A : Type 0) → none ≡ told {A = A} none
 unfolding told
 nothing_told A = refl
 
-pub refused_told : (A : Type 0) (n place : ℕ) → Read.Refused n place ≡ told {A = A} (bad n place)
+pub refused_told : (A : Type 0) (n place : ℕ) → bad n place ≡ told {A = A} (bad n place)
 unfolding told
 refused_told A n place = refl
 
-pub told_got : {A : Type 0} (p : Part A) {at rows : ℕ} → Read.Done at rows ≡ told p → (x : A) × (p ≡ got x at rows)
+pub told_got : {A : Type 0} (p : Part A) {at rows : ℕ} → got tt at rows ≡ told p → (x : A) × (p ≡ got x at rows)
 unfolding told
 told_got (got x at' rows') e = (x, cc)
 told_got none e = absurd (let z : ◌≡◌ {A = ℕ} 0 1 = cc in omega arith)
 told_got (bad n place) e = absurd (let z : ◌≡◌ {A = ℕ} 0 1 = cc in omega arith)
 
-pub told_none : {A : Type 0} (p : Part A) → Read.Nothing ≡ told p → p ≡ none
+pub told_none : {A : Type 0} (p : Part A) → none ≡ told p → p ≡ none
 unfolding told
 told_none (got x at rows) e = cc
 told_none none e = refl
 told_none (bad n place) e = cc
 
-pub told_bad : {A : Type 0} (p : Part A) {n place : ℕ} → Read.Refused n place ≡ told p → p ≡ bad n place
+pub told_bad : {A : Type 0} (p : Part A) {n place : ℕ} → bad n place ≡ told p → p ≡ bad n place
 unfolding told
 told_bad (got x at rows) e = cc
 told_bad none e = cc
 told_bad (bad n place) e = cc
 
 -- Of a part and what is read behind it: where the part is there, and where it is not.
-pub bind_done : {A B : Type 0} (p : Part A) (f : A → ℕ → ℕ → Part B) {at rows : ℕ} {w : Read} (v : Read) → w ≡ Read.Done at rows → w ≡ told p → ((x : A) → v ≡ told (f x at rows)) → v ≡ told (bind p f)
+pub bind_done : {A B : Type 0} (p : Part A) (f : A → ℕ → ℕ → Part B) {at rows : ℕ} {w : Part ⊤} (v : Part ⊤) → w ≡ got tt at rows → w ≡ told p → ((x : A) → v ≡ told (f x at rows)) → v ≡ told (bind p f)
 unfolding bind
 bind_done p f v d e k = let g = told_got p (sym d ∙ e) in rw g.1 (k g.0)
 
-abbrev pub Stops : Read → Type 0
-Stops (Read.Done at rows) = ⊥
-Stops Read.Nothing = Unit {0}
-Stops (Read.Refused n place) = Unit {0}
+abbrev pub Stops : Part ⊤ → Type 0
+Stops (got x at rows) = ⊥
+Stops none = Unit {0}
+Stops (bad n place) = Unit {0}
 
 stop_same : {A B : Type 0} (p : Part A) (f : A → ℕ → ℕ → Part B) → Stops (told p) → told p ≡ told (bind p f)
 unfolding bind told
@@ -73,7 +73,7 @@ stop_same (got x at rows) f h = absurd h
 stop_same none f h = refl
 stop_same (bad n place) f h = refl
 
-pub bind_stop : {A B : Type 0} (p : Part A) (f : A → ℕ → ℕ → Part B) {w : Read} → Stops w → w ≡ told p → w ≡ told (bind p f)
+pub bind_stop : {A B : Type 0} (p : Part A) (f : A → ℕ → ℕ → Part B) {w : Part ⊤} → Stops w → w ≡ told p → w ≡ told (bind p f)
 bind_stop p f h e = e ∙ stop_same p f (rw e at h)
 
 -- What is made of a part makes no difference.
@@ -88,9 +88,17 @@ pub told_out : (A : Type 0) (s : List ℕ) (w : Word) → out_of_place s w ≡ t
 unfolding told
 told_out A s w = go (eqb w.kind no_kind)
   where
-    go : (b : Bool) → cond b (Read.Refused cut_short (length s)) (Read.Refused word_out_of_place w.start) ≡ told {A = A} (cond b (bad cut_short (length s)) (bad word_out_of_place w.start))
+    go : (b : Bool) → cond b (bad cut_short (length s)) (bad word_out_of_place w.start) ≡ told {A = A} (cond b (bad cut_short (length s)) (bad word_out_of_place w.start))
     go true = refl
     go false = refl
+
+pub bad_out : (A : Type 0) (s : List ℕ) (w : Word) (e : Refused) → refusal e ≡ out_of_place s w → misplaced s w ≡ refusal {A = A} e
+bad_out A s w e = go (eqb w.kind no_kind)
+  where
+    go : (b : Bool) → refusal {A = ⊤} e ≡ cond b (bad cut_short (length s)) (bad word_out_of_place w.start)
+        → cond {A = Part A} b (bad cut_short (length s)) (bad word_out_of_place w.start) ≡ refusal e
+    go true h = cc
+    go false h = cc
 
 -- WHAT A PART HOLDS, and the rows that it takes
 

@@ -1,37 +1,20 @@
-use mathlib.Core.Path.{sym, ◌∙◌}
+use mathlib.Core.Path.{◌∙◌}
 use native.Mathlib.Omega.{arith}
-use borrow.Author.Tests.{eqb-true}
-use lib.ListN.{drop}
-use Rattle.text_words.specs.Words.{in_word, run}
-use Rattle.text_words.specs.Laws.Words.{run_more}
-use Rattle.text_words.proofs.Fronts.{goes_on}
+use Rattle.text_words.specs.Words.{in_word}
+use Rattle.text_words.specs.Laws.Words.{run_more, run_stop, run_end}
 use Rattle.text_words.proofs.word_end.Goals as goal
 
-pub overflow_add-i : goal.overflow_add-i
-overflow_add-i c =
-    let l = c.loop-i in
-    let t = c.args.text.now in
-    let e = sym c.ends_at.ensures ∙ c.loop-i-test.true in
-    omega (arith, goes_on t l.i e)
-
-pub loop-i-smaller : goal.loop-i-smaller
-loop-i-smaller c =
-    let l = c.loop-i in
-    let t = c.args.text.now in
-    let e = sym c.ends_at.ensures ∙ c.loop-i-test.true in
-    omega (arith, goes_on t l.i e)
-
 pub loop-i-preserved : goal.loop-i-preserved
+unfolding in_word
 loop-i-preserved c =
-    let l = c.loop-i in
-    let t = c.args.text.now in
-    let e = sym c.ends_at.ensures ∙ c.loop-i-test.true in
-    let g = goes_on t l.i e in
-    run_more in_word t l.i 0 g.0 g.1 ∙ l.invariant
+    let i = c.loop-i.i in
+    run_more in_word _ i 0 (omega arith) (rw (← c.is_blank.ensures, c.if-is_blank.false)) ∙ c.loop-i.invariant
+
+pub returns-then-is_blank : goal.returns-then-is_blank
+unfolding in_word
+returns-then-is_blank c =
+    let i = c.loop-i.i in
+    run_stop in_word _ i 0 (omega arith) (rw (← c.is_blank.ensures, c.if-is_blank.true)) ∙ c.loop-i.invariant
 
 pub returns : goal.returns
-returns c =
-    let l = c.loop-i in
-    let t = c.args.text.now in
-    let z = eqb-true (run in_word (drop l.i t)) 0 (sym c.ends_at.ensures ∙ c.loop-i-test.false) in
-    omega arith
+returns c = omega (arith, c.loop-i.invariant, run_end in_word c.args.text.now c.loop-i.i (omega arith))

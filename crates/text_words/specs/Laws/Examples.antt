@@ -1,7 +1,7 @@
 -- The words compute. Texts with the word that is read from a place on, and the first byte that is not allowed: two tables, each
 -- under one claim. Kinds, values and places are document 01's ('Job text'), counted by hand.
-use Rattle.std.specs.Prelude.{◌≡◌, refl, List, [], ◌∷◌, map, ℕ}
-use Rattle.text_words.specs.Kinds.{Word, Place, Nowhere, At}
+use Rattle.std.specs.Prelude.{◌≡◌, refl, List, [], ◌∷◌, map, ℕ, Option, Some, None}
+use Rattle.text_words.specs.Kinds.{Word}
 use Rattle.text_words.specs.Words.{is_blank, is_digit, is_letter, is_allowed, in_word, run, reserved, same_word, differs, place_of, only_digits, leading_zero, is_number, decimal, numeral, kind_of, value_of, start_at, next_at, bytes_at, word_at, first_not_allowed}
 
 -- A text, a place, and the word from there on: its kind (0 no word, 1 to 16 the reserved words in document 01's order, 17 a number, 18
@@ -77,31 +77,31 @@ examples =
 -- A text, and its first byte that is not allowed.
 record Allowed : Type 0 where
   bytes : List ℕ
-  first : Place
+  first : Option ℕ
 
-abbrev allowed : List ℕ → Place → Allowed
+abbrev allowed : List ℕ → Option ℕ → Allowed
 allowed bytes first = record { bytes = bytes; first = first }
 
 abbrev texts : List Allowed
 texts =
     -- none: the empty text; blank, newline, and the first and the last of the digits and the letters
-    allowed [] Nowhere
-    ∷ allowed (32 ∷ 10 ∷ 48 ∷ 57 ∷ 97 ∷ 122 ∷ []) Nowhere
+    allowed [] None
+    ∷ allowed (32 ∷ 10 ∷ 48 ∷ 57 ∷ 97 ∷ 122 ∷ []) None
     -- a tab; bytes 11, 13, 31 and 33
-    ∷ allowed (9 ∷ []) (At 0)
-    ∷ allowed (97 ∷ 11 ∷ []) (At 1)
-    ∷ allowed (32 ∷ 13 ∷ []) (At 1)
-    ∷ allowed (31 ∷ []) (At 0)
-    ∷ allowed (33 ∷ []) (At 0)
+    ∷ allowed (9 ∷ []) (Some 0)
+    ∷ allowed (97 ∷ 11 ∷ []) (Some 1)
+    ∷ allowed (32 ∷ 13 ∷ []) (Some 1)
+    ∷ allowed (31 ∷ []) (Some 0)
+    ∷ allowed (33 ∷ []) (Some 0)
     -- the bytes beside the digits, 47 and 58, and beside the letters, 96 and 123
-    ∷ allowed (48 ∷ 47 ∷ 58 ∷ []) (At 1)
-    ∷ allowed (58 ∷ 58 ∷ []) (At 0)
-    ∷ allowed (97 ∷ 97 ∷ 96 ∷ []) (At 2)
-    ∷ allowed (122 ∷ 123 ∷ []) (At 1)
+    ∷ allowed (48 ∷ 47 ∷ 58 ∷ []) (Some 1)
+    ∷ allowed (58 ∷ 58 ∷ []) (Some 0)
+    ∷ allowed (97 ∷ 97 ∷ 96 ∷ []) (Some 2)
+    ∷ allowed (122 ∷ 123 ∷ []) (Some 1)
     -- a capital; byte 0; byte 255
-    ∷ allowed (65 ∷ []) (At 0)
-    ∷ allowed (0 ∷ []) (At 0)
-    ∷ allowed (97 ∷ 255 ∷ []) (At 1)
+    ∷ allowed (65 ∷ []) (Some 0)
+    ∷ allowed (0 ∷ []) (Some 0)
+    ∷ allowed (97 ∷ 255 ∷ []) (Some 1)
     ∷ []
 
 examples_hold : map (λ e. word_at e.text e.at) examples ≡ map (λ e. e.word) examples

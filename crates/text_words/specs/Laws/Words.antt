@@ -2,7 +2,7 @@
 -- first; the proofs of the scanning loops cite them too. Assumes nothing.
 use Rattle.std.proofs.Math.Path.{◌≡◌, refl, sym}
 use Rattle.std.proofs.Common.{ap, ◌∙◌, true≢false, add-one, drop_of_length-le, drop-cons}
-use Rattle.std.specs.Prelude.{Bool, not, ◌&&◌, eqb, leb, get_or, drop}
+use Rattle.std.specs.Prelude.{Some, None, Bool, not, ◌&&◌, eqb, leb, get_or, drop}
 use Rattle.std.proofs.Math.Bool.{true, false, cond}
 use Rattle.std.proofs.lemmas.Bool.{false≢true}
 use mathlib.Core.List.{List, [], ◌∷◌}
@@ -14,7 +14,6 @@ use Rattle.std.proofs.Math.ListN.{length, length-take, length-drop}
 use Rattle.std.proofs.Math.Seq.{get_or-drop}
 use Rattle.meaning.specs.Numbers.{value_limit}
 use Rattle.meaning.specs.Laws.Tests.{both, cond_all}
-use Rattle.text_words.specs.Kinds.{Nowhere, At}
 use Rattle.text_words.specs.Words.{is_blank, is_digit, is_allowed, in_word, run, reserved, same_word, differs, place_of, only_digits, leading_zero, is_number, decimal, numeral, no_kind, number_kind, other_kind, kind_of, value_of, start_at, next_at, bytes_at, word_at, first_not_allowed}
 
 -- RUNS
@@ -300,17 +299,17 @@ module _ (text : List ℕ) (at : ℕ) where
 
 -- The first byte that is not allowed: none where all are allowed; otherwise it is not, and all ahead of it are.
 module _ (text : List ℕ) where
-  pub all_allowed : first_not_allowed text ≡ Nowhere → (i : ℕ) → i < length text → is_allowed (get_or text i 0) ≡ true
+  pub all_allowed : first_not_allowed text ≡ None → (i : ℕ) → i < length text → is_allowed (get_or text i 0) ≡ true
   unfolding first_not_allowed
   all_allowed =
-      cond_all (λ p. p ≡ Nowhere → (i : ℕ) → i < length text → is_allowed (get_or text i 0) ≡ true) (ltb (run is_allowed text) (length text))
+      cond_all (λ p. p ≡ None → (i : ℕ) → i < length text → is_allowed (get_or text i 0) ≡ true) (ltb (run is_allowed text) (length text))
       (λ _ q. absurd (let z : ◌≡◌ {A = ℕ} 0 1 = cc in omega arith))
       (λ e _ i h. let n = ltb-false (run is_allowed text) (length text) e in run_passes is_allowed text i 0 (omega arith))
 
-  pub first_bad : (n : ℕ) → first_not_allowed text ≡ At n → (n < length text) × (is_allowed (get_or text n 0) ≡ false) × ((i : ℕ) → i < n → is_allowed (get_or text i 0) ≡ true)
+  pub first_bad : (n : ℕ) → first_not_allowed text ≡ Some n → (n < length text) × (is_allowed (get_or text n 0) ≡ false) × ((i : ℕ) → i < n → is_allowed (get_or text i 0) ≡ true)
   unfolding first_not_allowed
   first_bad n =
-      cond_all (λ p. p ≡ At n → (n < length text) × (is_allowed (get_or text n 0) ≡ false) × ((i : ℕ) → i < n → is_allowed (get_or text i 0) ≡ true)) (ltb (run is_allowed text) (length text))
+      cond_all (λ p. p ≡ Some n → (n < length text) × (is_allowed (get_or text n 0) ≡ false) × ((i : ℕ) → i < n → is_allowed (get_or text i 0) ≡ true)) (ltb (run is_allowed text) (length text))
       (λ e q.
       let r : n ≡ run is_allowed text = cc in
       let h = ltb-true (run is_allowed text) (length text) e in

@@ -8,8 +8,7 @@ use Rattle.meaning.specs.Numbers.{buffer_too_short}
 use Rattle.meaning.specs.Text.{Job}
 use Rattle.meaning.specs.Bytes.{job_image}
 use Rattle.text_reader.specs.Reading.{Part, got, none, bad, reading}
-use Rattle.translate.specs.Kinds.{Image, Refused}
-use Rattle.translate.specs.Translated.{translated_to, translated, written_to, written}
+use Rattle.translate.specs.Translated.{Image, Refused, translated_to, translated, written_to, written}
 
 no_image : {number place n : ℕ} → Refused number place ≡ Image n → ⊥
 no_image e = let z : ◌≡◌ {A = ℕ} 0 1 = cc in omega arith

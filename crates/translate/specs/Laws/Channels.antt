@@ -1,15 +1,16 @@
 -- One lap over channels that the definitions read. Assumes nothing.
-use Rattle.std.specs.Prelude.{◌≡◌, refl, List, [], ◌∷◌, eqb, set}
+use Rattle.std.specs.Prelude.{◌≡◌, refl, List, [], ◌∷◌, eqb, set, Result, Ok, Err}
 use Rattle.std.proofs.Math.Path.{sym, ap}
 use Rattle.std.proofs.Common.{subst, ◌∙◌, arith}
 use Prim.Native.Nat.{ℕ, suc, ◌+◌, ◌-◌, ◌≤◌}
 use Rattle.std.proofs.Math.ListN.{length}
 use Rattle.std.proofs.lemmas.List.Edits.{sets}
 use Rattle.meaning.specs.Numbers.{capacity_limit}
-use Rattle.translate.specs.Kinds.{Word, NumberRead}
+use Rattle.translate.specs.Kinds.{Word, Refused, Got}
 use Rattle.text_words.specs.Words.{chan_kind, word_at}
 use Rattle.text_reader.specs.Reading.{got, number, chan_by, chans_from}
-use Rattle.text_reader.specs.Answers.{number_part, NumberTold}
+use Rattle.text_reader.specs.Answers.{due_part, NumberTold}
+use Rattle.text_reader.specs.Laws.Answered.{due_got}
 use Rattle.text_reader.specs.Laws.Parts.{none_got, bad_got, same_got}
 use Rattle.text_reader.specs.Laws.Many.{many_ways, many_got}
 use Rattle.text_laws.specs.Laws.Kept as kept
@@ -57,21 +58,18 @@ nothing_left [] out i e = refl
 nothing_left (n ∷ ns) out i e = absurd (omega arith)
 
 -- A number that was found is within its limit.
-pub number_within : (s : List ℕ) (limit at : ℕ) {v : NumberRead} {n end : ℕ} → v ≡ NumberRead.Got n end → NumberTold s limit at v → n ≤ limit
-unfolding number_part
-number_within s limit at {n = n} {end} q h =
-    let e : number s limit at 0 ≡ got n end 0 = h 0 ∙ ap (number_part 0) q in
-    (subst (kept.Kept s kept.Anywhere (kept.NumberRead 0 limit)) e (walk.number_kept s kept.Anywhere (λ _. tt) limit at 0 tt)).1.within
+pub number_within : (s : List ℕ) (limit at : ℕ) {v : Result (Got ℕ) Refused} {g : Got ℕ} → v ≡ Ok g → NumberTold s limit at v → g.value ≤ limit
+number_within s limit at q h =
+    (subst (kept.Kept s kept.Anywhere (kept.NumberRead 0 limit)) (h 0 ∙ due_got 0 q) (walk.number_kept s kept.Anywhere (λ _. tt) limit at 0 tt)).1.within
 
 -- What the code finds is the first channel's capacity.
-pub same_number : (s : List ℕ) (limit at : ℕ) {v : NumberRead} {n end x a : ℕ} → v ≡ NumberRead.Got n end → NumberTold s limit at v → number s limit at 0 ≡ got x a 0 → (n ≡ x) × (end ≡ a)
-unfolding number_part
-same_number s limit at {n = n} {end} {x} {a} q h e =
-    let f : got n end 0 ≡ got x a 0 = sym (h 0 ∙ ap (number_part 0) q) ∙ e in
-    ((same_got f).0, (same_got f).1)
+pub same_number : (s : List ℕ) (limit at : ℕ) {v : Result (Got ℕ) Refused} {g : Got ℕ} {x a : ℕ} → v ≡ Ok g → NumberTold s limit at v → number s limit at 0 ≡ got x a 0 → (g.value ≡ x) × (g.next ≡ a)
+same_number s limit at q h e =
+    let f = same_got (sym (h 0 ∙ due_got 0 q) ∙ e) in
+    (f.0, f.1)
 
 -- So a number that is not there can't be.
-pub no_number : (s : List ℕ) (limit at : ℕ) (v : NumberRead) {x a : ℕ} → ((n end : ℕ) → v ≡ NumberRead.Got n end → ⊥) → NumberTold s limit at v → number s limit at 0 ≡ got x a 0 → ⊥
-unfolding number_part
-no_number s limit at (NumberRead.Got n end) t h e = t n end refl
-no_number s limit at (NumberRead.Refused m place) t h e = bad_got (sym (h 0) ∙ e)
+pub no_number : (s : List ℕ) (limit at : ℕ) (v : Result (Got ℕ) Refused) {x a : ℕ} → ((g : Got ℕ) → v ≡ Ok g → ⊥) → NumberTold s limit at v → number s limit at 0 ≡ got x a 0 → ⊥
+unfolding due_part
+no_number s limit at (Ok g) t h e = t g refl
+no_number s limit at (Err m) t h e = bad_got (sym (h 0) ∙ e)

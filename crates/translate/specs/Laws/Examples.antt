@@ -5,8 +5,7 @@ use Rattle.meaning.specs.Layout.{case_count, size_b, entry, case_rows, default_r
 use Rattle.meaning.specs.Bytes.{fields_of, row_bytes, first_bytes, image_bytes, job_image}
 use Rattle.text_words.specs.Words.{word_at, first_not_allowed, kind_of, value_of, start_at, next_at, bytes_at, numeral, decimal, is_number, only_digits, leading_zero, place_of, differs, same_word, reserved, run, in_word, is_allowed, is_letter, is_digit, is_blank}
 use Rattle.text_reader.specs.Reading.{bind, many, number_by, closed_by, port_by, op_by, second_by, case_op, case_by, last_by, cases_from, stmt_by, body_from, chan_by, chans_from, task_end, task_by, tasks_from, job, reading}
-use Rattle.translate.specs.Kinds.{Translated, Image, Refused}
-use Rattle.translate.specs.Translated.{translated_to, translated, written_to, written}
+use Rattle.translate.specs.Translated.{Translated, Image, Refused, translated_to, translated, written_to, written}
 
 record Example : Type 0 where
   text : List ℕ

@@ -1,10 +1,10 @@
 -- One lap over a body and over cases that the definitions read, by what the reader answers there. Assumes nothing.
-use Rattle.std.specs.Prelude.{◌≡◌, refl, Bool, true, false, cond, List, eqb, length}
+use Rattle.std.specs.Prelude.{◌≡◌, refl, Bool, true, false, cond, List, eqb, length, ⊤}
 use Rattle.std.proofs.Math.Path.{sym, ap}
 use Rattle.std.proofs.Common.{◌∙◌, arith, eq-eqb, ne_eqb, eqb-true}
 use Prim.Native.Nat.{ℕ, zero, suc, ◌+◌, ◌-◌, ◌≤◌, ◌<◌}
 use Rattle.std.proofs.lemmas.Bool.{eqb-false}
-use Rattle.translate_rows.specs.Kinds.{Op, Word, Read, Counted, Head}
+use Rattle.translate_rows.specs.Kinds.{Op, Word, Head}
 use Rattle.meaning.specs.Numbers.{case_limit, row_limit, word_out_of_place, cut_short}
 use Rattle.meaning.specs.Text.{Stmt, ifok, select, Body, empty, ◌▸◌, Cases, nomore, default, case}
 use Rattle.meaning.specs.Layout.{case_count, size_s, size_b, size_c}
@@ -18,7 +18,7 @@ use Rattle.text_reader.specs.Laws.Sizes.{SizedS, SizedB, SizedCase, SizedC, stmt
 use Rattle.text_reader.specs.Laws.Selects.{behind_cases, cases_split}
 
 -- A bind whose first part was told to be there.
-pub bind_told : {A B : Type 0} (p : Part A) (f : A → ℕ → ℕ → Part B) {v : Read} {a' r' : ℕ} {y : B} {b m : ℕ} → v ≡ Read.Done a' r' → v ≡ told p → bind p f ≡ got y b m → (x : A) × (p ≡ got x a' r') × (f x a' r' ≡ got y b m)
+pub bind_told : {A B : Type 0} (p : Part A) (f : A → ℕ → ℕ → Part B) {v : Part ⊤} {a' r' : ℕ} {y : B} {b m : ℕ} → v ≡ got tt a' r' → v ≡ told p → bind p f ≡ got y b m → (x : A) × (p ≡ got x a' r') × (f x a' r' ≡ got y b m)
 unfolding bind
 bind_told p f d h e = let g = told_got p (sym d ∙ h) in (g.0, g.1, rw g.1 at e)
 
@@ -55,7 +55,7 @@ pub record Lap (s : List ℕ) (channels depth at rows a' n : ℕ) (b : Body) (a 
   pub size : n ≡ rows + size_s one
 
 module _ (s : List ℕ) (channels depth at rows : ℕ) where
-  pub lap : {a' n : ℕ} {v : Read} → v ≡ Read.Done a' n → StmtTold s channels depth at rows v → (m : ℕ) → row_limit - rows < m → {b : Body} {a r : ℕ} → body_from m s channels depth at rows ≡ got b a r → Lap s channels depth at rows a' n b a r
+  pub lap : {a' n : ℕ} {v : Part ⊤} → v ≡ got tt a' n → StmtTold s channels depth at rows v → (m : ℕ) → row_limit - rows < m → {b : Body} {a r : ℕ} → body_from m s channels depth at rows ≡ got b a r → Lap s channels depth at rows a' n b a r
   unfolding body_from
   lap q h zero l e = absurd (omega arith)
   lap {a'} {n} q h (suc k) l e =
@@ -65,7 +65,7 @@ module _ (s : List ℕ) (channels depth at rows : ℕ) where
       let y = ahead_got ◌▸◌ (body_from k s channels depth) (got empty at rows) p e g.1 in
       record { steps = k; one = g.0; rest = y.0; enough = omega arith; enough' = omega (arith, z.1); is = g.1; rest_is = y.1; whole = y.2; size = z.2 }
 
-  pub no_lap : {v : Read} → Stops v → StmtTold s channels depth at rows v → (m : ℕ) → row_limit - rows < m → {b : Body} {a r : ℕ} → body_from m s channels depth at rows ≡ got b a r → b ≡ empty
+  pub no_lap : {v : Part ⊤} → Stops v → StmtTold s channels depth at rows v → (m : ℕ) → row_limit - rows < m → {b : Body} {a r : ℕ} → body_from m s channels depth at rows ≡ got b a r → b ≡ empty
   unfolding body_from
   no_lap q h zero l e = absurd (omega arith)
   no_lap q h (suc k) l e =
@@ -103,7 +103,7 @@ pub record CaseLap (k : ℕ) (s : List ℕ) (channels depth left at rows a' n : 
   pub size : n ≡ rows + 1 + size_b one
 
 module _ (k : ℕ) (s : List ℕ) (channels depth left at rows : ℕ) where
-  pub case_lap : {a' n : ℕ} {v : Read} {cs : Cases} {a r : ℕ} → row_limit ≤ k + rows → v ≡ Read.Done a' n → CaseTold s channels depth at rows left v
+  pub case_lap : {a' n : ℕ} {v : Part ⊤} {cs : Cases} {a r : ℕ} → row_limit ≤ k + rows → v ≡ got tt a' n → CaseTold s channels depth at rows left v
       → cases_from s channels (body_from k s channels depth) left at rows ≡ got cs a r → CaseLap k s channels depth left at rows a' n cs a r
   unfolding cases_from
   case_lap {a'} {n} l q h e =
@@ -114,7 +114,7 @@ module _ (k : ℕ) (s : List ℕ) (channels depth left at rows : ℕ) where
       record { op = g.0.0; one = g.0.1; rest = y.0; fewer = left - 1; left_is = sym z; is = g.1; rest_is = y.1; whole = y.2; size = b.2 }
 
   -- Where no case stands, the default is due.
-  pub no_case_lem : {v : Read} {cs : Cases} {a r : ℕ} → row_limit ≤ k + rows → Stops v → CaseTold s channels depth at rows left v → cases_from s channels (body_from k s channels depth) left at rows ≡ got cs a r
+  pub no_case_lem : {v : Part ⊤} {cs : Cases} {a r : ℕ} → row_limit ≤ k + rows → Stops v → CaseTold s channels depth at rows left v → cases_from s channels (body_from k s channels depth) left at rows ≡ got cs a r
       → last_by s channels (body_from k s channels depth) at (word_at s at) rows ≡ got cs a r
   unfolding cases_from
   no_case_lem l q h e = many_last _ _ _ left at rows e (rw (h k l) at q)
@@ -169,7 +169,7 @@ pub record Chosen (k : ℕ) (s : List ℕ) (channels depth at rows b m n : ℕ) 
   pub last_is : last_by s channels (body_from k s channels depth) b (word_at s b) m ≡ got (behind_cases cases) end total
   pub size : m + size_c (behind_cases cases) ≡ rows + case_count cases + size_c cases
 
-pub chosen : (k : ℕ) (s : List ℕ) (channels depth at rows : ℕ) {b m n : ℕ} {v : Counted} {x : Stmt} {a r : ℕ} → row_limit - rows < k → v ≡ Counted.Done b m n → CasesTold s channels depth at rows v
+pub chosen : (k : ℕ) (s : List ℕ) (channels depth at rows : ℕ) {b m n : ℕ} {v : Part ℕ} {x : Stmt} {a r : ℕ} → row_limit - rows < k → v ≡ got n b m → CasesTold s channels depth at rows v
     → bind (cases_from s channels (body_from k s channels depth) case_limit at rows) (λ cs at r. closed s (select cs) at r) ≡ got x a r → Chosen k s channels depth at rows b m n x
 chosen k s channels depth at rows {b} {m} {n} l q h e =
     let sub = body_from k s channels depth in
@@ -184,6 +184,6 @@ chosen k s channels depth at rows {b} {m} {n} l q h e =
     record { cases = g.0; end = g.1; total = g.2; is = g.3; whole = w; count = d.2 ∙ i.0; last_is = f; size = omega arith }
 
 -- What a head begins, as the definitions read it.
-pub head_as : (s : List ℕ) (channels depth at rows : ℕ) {v i : Head} → v ≡ i → HeadTold s channels depth at rows v → (sub : ℕ → ℕ → Part Body) {p : Part Stmt}
+pub head_as : (s : List ℕ) (channels depth at rows : ℕ) {v i : Part Head} → v ≡ i → HeadTold s channels depth at rows v → (sub : ℕ → ℕ → Part Body) {p : Part Stmt}
     → stmt_by s channels sub depth (word_at s at) rows ≡ p → stmt_of s channels sub rows i ≡ p
 head_as s channels depth at rows {v} {i} e h sub f = stmt_of_lem s channels depth at rows sub i (head_told s channels depth at rows e h) ∙ f

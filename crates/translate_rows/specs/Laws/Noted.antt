@@ -1,12 +1,12 @@
 -- One lap over what the definitions read and pass 1 notes. Assumes nothing.
-use Rattle.std.specs.Prelude.{◌≡◌, Bool, cond, List, [], ◌∷◌, ◌++◌, eqb, length}
+use Rattle.std.specs.Prelude.{◌≡◌, Bool, cond, List, [], ◌∷◌, ◌++◌, eqb, length, ⊤}
 use Rattle.std.proofs.Math.Path.{refl, sym}
 use Rattle.std.proofs.Common.{ap, ◌∙◌, append_assoc, ne_eqb, length-append}
 use Rattle.std.proofs.Math.Bool.{true, false}
 use Prim.Native.Nat.{ℕ, suc, ◌+◌, ◌-◌, ◌*◌, ◌≤◌, ◌<◌}
 use native.Mathlib.Omega.{arith}
 use Rattle.std.proofs.Math.Seq.{sets}
-use Rattle.translate_rows.specs.Kinds.{Port, Op, Word, Read, Counted, Head}
+use Rattle.translate_rows.specs.Kinds.{Port, Op, Word, Head}
 use Rattle.meaning.specs.Events.{port_number}
 use Rattle.meaning.specs.Numbers.{case_limit, row_limit}
 use Rattle.meaning.specs.Text.{Stmt, operate, close, stop, range, repeat, ifok, select, Body, empty, Cases, nomore, default, case}
@@ -24,7 +24,7 @@ use Rattle.translate_rows.specs.Noted.{case_notes, lines_c, BodyNoted, StmtNoted
 use Rattle.translate_rows.specs.Laws.Laps.{Lap, CaseLap, Chosen, body_size, last_nomore}
 use Rattle.translate_rows.specs.Laws.Notes.{stored_on, noted_ahead, noted_as}
 
-pub stop_got : {A : Type 0} (p : Part A) {v : Read} {x : A} {a r : ℕ} → Stops v → v ≡ told p → p ≡ got x a r → ⊥
+pub stop_got : {A : Type 0} (p : Part A) {v : Part ⊤} {x : A} {a r : ℕ} → Stops v → v ≡ told p → p ≡ got x a r → ⊥
 unfolding told
 stop_got (got x a r) h q e = rw q at h
 stop_got none h q e = none_got e
@@ -119,10 +119,10 @@ select_noted d D row {k} {s} {channels} {at} {rows} {m = m} {n} w old {mid} qd t
 
 -- AN ANSWER THAT IS NOT `Done`: nothing is left to say of the notes.
 
-pub stop_by : {v w : Read} → v ≡ w → Stops w → Stops v
+pub stop_by : {v w : Part ⊤} → v ≡ w → Stops w → Stops v
 stop_by e h = rw e h
 
-module _ (s : List ℕ) (channels depth at rows : ℕ) {v : Read} (old new : List ℕ) (h : Stops v) where
+module _ (s : List ℕ) (channels depth at rows : ℕ) {v : Part ⊤} (old new : List ℕ) (h : Stops v) where
   pub stopped_body : BodyTold s channels depth at rows v → BodyTold s channels depth at rows v × BodyNoted s channels depth at rows old new
   stopped_body f = (f, λ k b a r l e. absurd (stop_got (body_from k s channels depth at rows) h (f k l) e))
 
@@ -146,72 +146,66 @@ module _ (s : List ℕ) (channels depth at rows : ℕ) {v : Read} (old new : Lis
 
 -- NEVER NOTHING
 
-pub refused_some : (old new : List ℕ) (n place : ℕ) → Unmoved old new (Read.Refused n place)
+pub refused_some : (old new : List ℕ) (n place : ℕ) → Unmoved old new (bad n place)
 refused_some old new n place e = absurd (let z : ◌≡◌ {A = ℕ} 0 1 = cc in omega arith)
 
-pub done_some : (old new : List ℕ) {v : Read} {at rows : ℕ} → v ≡ Read.Done at rows → Unmoved old new v
+pub done_some : (old new : List ℕ) {v : Part ⊤} {at rows : ℕ} → v ≡ got tt at rows → Unmoved old new v
 done_some old new q e = absurd (let z : ◌≡◌ {A = ℕ} 0 1 = cc in omega arith)
 
 -- Cases that were refused are not there.
-pub cases_cut : (k : ℕ) (s : List ℕ) (channels depth at rows : ℕ) {n place : ℕ} {cs : Cases} {a r : ℕ} → Counted.Refused n place ≡ counted self 0 (count_from s channels (body_from k s channels depth) case_limit at rows)
+pub cases_cut : (k : ℕ) (s : List ℕ) (channels depth at rows : ℕ) {n place : ℕ} {cs : Cases} {a r : ℕ} → bad n place ≡ counted self 0 (count_from s channels (body_from k s channels depth) case_limit at rows)
     → cases_from s channels (body_from k s channels depth) case_limit at rows ≡ got cs a r → ⊥
 unfolding counted
 cases_cut k s channels depth at rows {n} {place} {cs} {a} {r} h e =
     let t = cases_split s channels (body_from k s channels depth) (body_sized k s channels depth) case_limit at rows cs a r e in
-    let f : Counted.Refused n place ≡ Counted.Done t.0 t.1 (0 + case_count cs) = h ∙ ap (counted self 0) t.2 in
+    let f : bad n place ≡ got (0 + case_count cs) t.0 t.1 = h ∙ ap (counted self 0) t.2 in
     let z : ◌≡◌ {A = ℕ} 0 1 = cc in
     omega arith
 
-pub sure_told : {A : Type 0} (p : Part A) → Sure p → Read.Nothing ≡ told p → ⊥
+pub sure_told : {A : Type 0} (p : Part A) → Sure p → none ≡ told p → ⊥
 unfolding told
 sure_told (got x a r) h e = let z : ◌≡◌ {A = ℕ} 0 1 = cc in omega arith
 sure_told none h e = h
 sure_told (bad n place) h e = let z : ◌≡◌ {A = ℕ} 0 1 = cc in omega arith
 
 module _ (s : List ℕ) (channels depth at rows : ℕ) where
-  pub body_some : (old new : List ℕ) {v : Read} → BodyTold s channels depth at rows v → Unmoved old new v
+  pub body_some : (old new : List ℕ) {v : Part ⊤} → BodyTold s channels depth at rows v → Unmoved old new v
   body_some old new f e = absurd (sure_told (body_from (suc row_limit) s channels depth at rows) (body_sure s (suc row_limit) channels depth at rows) (sym e ∙ f (suc row_limit) (omega arith)))
 
-  abbrev pub Begins : Head → Type 0
-  Begins (Head.Operate o next) = Unit {0}
-  Begins (Head.Close p next) = Unit {0}
-  Begins (Head.Stop next) = Unit {0}
-  Begins (Head.Range p next) = Unit {0}
-  Begins (Head.Repeat n next) = Unit {0}
-  Begins (Head.Ifok next) = Unit {0}
-  Begins (Head.Select next) = Unit {0}
-  Begins Head.Nothing = ⊥
-  Begins (Head.Refused n place) = Unit {0}
+  abbrev pub Begins : Part Head → Type 0
+  Begins (got x next m) = Unit {0}
+  Begins none = ⊥
+  Begins (bad n place) = Unit {0}
 
-  pub stmt_some : (old new : List ℕ) {w i : Head} {v : Read} → w ≡ i → HeadTold s channels depth at rows w → Begins i → StmtTold s channels depth at rows v → Unmoved old new v
+  pub stmt_some : (old new : List ℕ) {w i : Part Head} {v : Part ⊤} → w ≡ i → HeadTold s channels depth at rows w → Begins i → StmtTold s channels depth at rows v → Unmoved old new v
   unfolding head_by
   stmt_some old new {w} {i} {v} q h b f e = absurd (go (is_statement (word_at s at).kind) refl)
     where
       go : (t : Bool) → is_statement (word_at s at).kind ≡ t → ⊥
       go true t = sure_told (stmt_by s channels (body_from row_limit s channels (depth + 1)) depth (word_at s at) rows) (statement_sure s channels (body_from row_limit s channels (depth + 1)) (body_sure s row_limit channels (depth + 1)) depth (word_at s at) rows t) (sym e ∙ f row_limit (omega arith))
-      go false t = let z : i ≡ Head.Nothing = sym q ∙ h ∙ rw t in rw z at b
+      go false t = let z : i ≡ none = sym q ∙ h ∙ rw t in rw z at b
 
 -- EACH WAY THAT IS DONE
 
-same_told : {A : Type 0} (p : Part A) {v : Read} {a' n : ℕ} {x : A} {a r : ℕ} → v ≡ Read.Done a' n → v ≡ told p → p ≡ got x a r → (a' ≡ a) × (n ≡ r)
+same_told : {A : Type 0} (p : Part A) {v : Part ⊤} {a' n : ℕ} {x : A} {a r : ℕ} → v ≡ got tt a' n → v ≡ told p → p ≡ got x a r → (a' ≡ a) × (n ≡ r)
 unfolding told
 same_told p {a' = a'} {n} {x} {a} {r} q h e =
-    let f : Read.Done a' n ≡ Read.Done a r = sym q ∙ h ∙ ap told e in
+    let f : got tt a' n ≡ got tt a r = sym q ∙ h ∙ ap told e in
     (cc, cc)
 
 module _ (k : ℕ) (s : List ℕ) (channels depth at rows : ℕ) where
   -- How many rows a body took that was told of.
-  body_told : {v : Read} {a' n : ℕ} {b : Body} {a r : ℕ} → v ≡ Read.Done a' n → v ≡ told (body_from k s channels depth at rows) → body_from k s channels depth at rows ≡ got b a r → (n ≡ r) × (n ≡ rows + size_b b)
+  body_told : {v : Part ⊤} {a' n : ℕ} {b : Body} {a r : ℕ} → v ≡ got tt a' n → v ≡ told (body_from k s channels depth at rows) → body_from k s channels depth at rows ≡ got b a r → (n ≡ r) × (n ≡ rows + size_b b)
   body_told q h e =
       let z = same_told (body_from k s channels depth at rows) q h e in
       let m = body_size k s channels depth at rows e in
       (z.1, z.1 ∙ m)
 
-  pub block_as : {v : Read} {a' n : ℕ} {b : Body} {a r : ℕ} (row head arg : ℕ) (old : List ℕ) {mid new : List ℕ} → v ≡ Read.Done a' n → v ≡ told (body_from k s channels depth at rows) → body_from k s channels depth at rows ≡ got b a r
+  pub block_as : {v : Part ⊤} {a' n : ℕ} {b : Body} {a r : ℕ} (row head arg : ℕ) (old : List ℕ) {mid new : List ℕ} → v ≡ got tt a' n → v ≡ told (body_from k s channels depth at rows) → body_from k s channels depth at rows ≡ got b a r
       → mid ≡ sets old (3 * rows) (notes_b b depth) → new ≡ noted mid row head arg (n - row) → new ≡ noted (sets old (3 * rows) (notes_b b depth)) row head arg (rows + size_b b - row)
   block_as row head arg old q h e f g = rw (g, f, (body_told q h e).1)
 
-  pub last_as : {v : Read} {a' n : ℕ} {b : Body} {cs : Cases} {a r : ℕ} (row head m : ℕ) (old : List ℕ) {mid new : List ℕ} → v ≡ Read.Done a' n → v ≡ told (body_from k s channels depth at rows) → body_from k s channels depth at rows ≡ got b a r → cs ≡ default b
+  pub last_as : {v : Part ⊤} {a' n : ℕ} {b : Body} {cs : Cases} {a r : ℕ} (row head m : ℕ) (old : List ℕ) {mid new : List ℕ} → v ≡ got tt a' n → v ≡ told (body_from k s channels depth at rows) → body_from k s channels depth at rows ≡ got b a r → cs ≡ default b
       → mid ≡ sets old (3 * rows) (notes_b b depth) → head ≡ 8 + 256 * m → new ≡ noted mid row head (n - rows + 1) (n - row) → new ≡ noted (sets old (3 * rows) (notes_c cs depth)) row (8 + 256 * m) (last_arg cs) (r - row)
   unfolding last_arg notes_c
   last_as {n = n} {b = b} row head m old q h e c f d g =
@@ -220,14 +214,14 @@ module _ (k : ℕ) (s : List ℕ) (channels depth at rows : ℕ) where
       let w : n - rows + 1 ≡ suc (size_b b) = omega arith in
       rw (g, f, c, d, w, z.0)
 
-  pub case_as : {v : Read} {a' n : ℕ} {b : Body} {a r : ℕ} (o c : Op) (row : ℕ) (old : List ℕ) {mid new : List ℕ} {head arg : ℕ} → v ≡ Read.Done a' n → v ≡ told (body_from k s channels depth at rows) → body_from k s channels depth at rows ≡ got b a r → o ≡ c → row < row_limit → rows ≡ row + 1
+  pub case_as : {v : Part ⊤} {a' n : ℕ} {b : Body} {a r : ℕ} (o c : Op) (row : ℕ) (old : List ℕ) {mid new : List ℕ} {head arg : ℕ} → v ≡ got tt a' n → v ≡ told (body_from k s channels depth at rows) → body_from k s channels depth at rows ≡ got b a r → o ≡ c → row < row_limit → rows ≡ row + 1
       → mid ≡ sets old (3 * rows) (notes_b b depth) → new ≡ noted mid row head arg (n - row) → head ≡ 8 + op_code o + 256 * op_port o → arg ≡ op_arg o → new ≡ sets old (3 * row) (case_notes c b depth)
   case_as {b = b} o c row old q h e p l t f g i j =
       let z = body_told q h e in
       let y = z.1 in
       rw (← p) (case_noted o b depth row rows old l t f g i j (omega arith))
 
-  pub if_noted : {v : Read} {a' n : ℕ} {b : Body} {a r : ℕ} (d : ℕ) (c : Body) (x : Stmt) (old : List ℕ) {mid new : List ℕ} → v ≡ Read.Done a' n → v ≡ told (body_from k s channels depth at rows) → body_from k s channels depth at rows ≡ got b a r
+  pub if_noted : {v : Part ⊤} {a' n : ℕ} {b : Body} {a r : ℕ} (d : ℕ) (c : Body) (x : Stmt) (old : List ℕ) {mid new : List ℕ} → v ≡ got tt a' n → v ≡ told (body_from k s channels depth at rows) → body_from k s channels depth at rows ≡ got b a r
       → suc d ≡ depth → 0 < rows → rows ≤ row_limit → ifok b c ≡ x → mid ≡ sets old (3 * rows) (notes_b b depth)
       → new ≡ noted (sets mid (3 * n) (notes_b c depth)) (rows - 1) 7 (n - (rows - 1) - 1) (n + size_b c - (rows - 1)) → new ≡ sets old (3 * (rows - 1)) (notes_s x d)
   unfolding op_s chan_s arg_s inside_s size_s

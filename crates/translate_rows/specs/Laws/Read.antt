@@ -1,12 +1,13 @@
 -- A text that pass 1 has read as a job: its numbers, and how long its image is. Assumes nothing.
-use Rattle.std.proofs.Math.Path.{◌≡◌, refl}
+use Rattle.std.proofs.Math.Path.{◌≡◌, refl, ap}
+use Rattle.text_reader.specs.Laws.Jobs.{sized}
+use Rattle.translate_rows.specs.Kinds.{JobSize}
 use Rattle.std.proofs.Common.{sym, ◌∙◌, arith}
-use Rattle.std.specs.Prelude.{List, ℕ, ◌+◌, ◌≤◌, length}
+use Rattle.std.specs.Prelude.{List, ℕ, ◌+◌, ◌≤◌, length, Result, Ok, Err}
 use Rattle.meaning.specs.Numbers.{channel_limit, task_limit, row_limit}
 use Rattle.meaning.specs.Text.{Job}
 use Rattle.meaning.specs.Layout.{rows_t}
 use Rattle.meaning.specs.Bytes.{trailer_size, span_of, job_image}
-use Rattle.translate_rows.specs.Kinds.{Reading}
 use Rattle.text_reader.specs.Reading.{Part, got, none, bad, job, reading}
 use Rattle.text_reader.specs.Answers.{told_job}
 use Rattle.text_laws.specs.Laws.Accepted.{reading_proper, accepted_length}
@@ -21,13 +22,19 @@ pub record IsJob (s : List ℕ) (rows channels tasks : ℕ) : Type 0 where
   pub channels_are : channels ≡ length job.capacities
   pub tasks_are : tasks ≡ length job.tasks
 
+abbrev size_in : Result JobSize (ℕ × ℕ) → JobSize
+size_in (Ok z) = z
+size_in (Err e) = record { rows = 0; channels = 0; tasks = 0 }
+
 module _ (s : List ℕ) where
-  pub is_job : {v : Reading} {rows channels tasks : ℕ} → v ≡ Reading.Job rows channels tasks → v ≡ told_job (reading s) → IsJob s rows channels tasks
+  pub is_job : {v : Result JobSize (ℕ × ℕ)} {rows channels tasks : ℕ} → v ≡ sized rows channels tasks → v ≡ told_job (reading s) → IsJob s rows channels tasks
   unfolding told_job
   is_job {rows = rows} {channels} {tasks} q h = go (reading s) refl (sym q ∙ h)
     where
-      go : (p : Part Job) → reading s ≡ p → Reading.Job rows channels tasks ≡ told_job p → IsJob s rows channels tasks
-      go (got j at n) e f = record { job = j; at = at; read = cc; channels_are = cc; tasks_are = cc }
+      go : (p : Part Job) → reading s ≡ p → sized rows channels tasks ≡ told_job p → IsJob s rows channels tasks
+      go (got j at n) e f =
+          let r : rows ≡ n = ap (λ z. (size_in z).rows) f in
+          record { job = j; at = at; read = e ∙ ap (λ m. got j at m) (sym r); channels_are = ap (λ z. (size_in z).channels) f; tasks_are = ap (λ z. (size_in z).tasks) f }
       go none e f = absurd (let z : ◌≡◌ {A = ℕ} 0 1 = cc in omega arith)
       go (bad n place) e f = absurd (let z : ◌≡◌ {A = ℕ} 0 1 = cc in omega arith)
 

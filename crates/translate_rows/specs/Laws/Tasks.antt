@@ -1,12 +1,12 @@
 -- One lap over tasks that the definitions read and pass 1 notes, by what the reader answers there. Assumes nothing.
-use Rattle.std.specs.Prelude.{◌≡◌, refl, List, [], ◌∷◌, ◌++◌, eqb, ltb, length, set}
+use Rattle.std.specs.Prelude.{◌≡◌, refl, List, [], ◌∷◌, ◌++◌, eqb, ltb, length, set, ⊤, Err}
 use Rattle.std.proofs.Math.Path.{sym, ap, subst}
 use Rattle.std.proofs.Common.{◌∙◌, append_assoc}
 use Prim.Native.Nat.{ℕ, suc, ◌+◌, ◌-◌, ◌*◌, ◌≤◌, ◌<◌}
 use native.Mathlib.Omega.{arith}
 use Rattle.std.proofs.Math.ListN.{length-append}
 use Rattle.std.proofs.lemmas.List.Edits.{sets}
-use Rattle.translate_rows.specs.Kinds.{Word, Read, Counted, Reading}
+use Rattle.translate_rows.specs.Kinds.{Word}
 use Rattle.meaning.specs.Numbers.{channel_limit, task_limit, row_limit}
 use Rattle.meaning.specs.Text.{Body, empty, Job}
 use Rattle.meaning.specs.Layout.{size_b, first_rows}
@@ -59,7 +59,7 @@ module _ (s : List ℕ) (channels : ℕ) where
       let l = notes_b_length x 0 in
       rw (← q.0) (g ∙ noted_in mid n 12 0 1 q.1 ∙ ap (λ (z : List ℕ). sets z (3 * n) stop_notes) f ∙ stored_on (notes_b x 0) stop_notes old (3 * rows) (3 * n) (omega arith))
 
-  module _ (at rows left : ℕ) {v : Read} (old new : List ℕ) where
+  module _ (at rows left : ℕ) {v : Part ⊤} (old new : List ℕ) where
     -- An answer that is not `Done`: nothing is left to say of the notes.
     pub stopped_task : Stops v → TaskTold s channels at rows left v → Unmoved old new v → TaskTold s channels at rows left v × TaskNoted s channels at rows left old new × Unmoved old new v
     stopped_task h f u = (f, λ b a r e. absurd (stop_got (task_by s channels left (word_at s at) rows) h f e), u)
@@ -71,7 +71,7 @@ module _ (s : List ℕ) (channels : ℕ) where
       (λ _. cond_all (λ (way : ℕ → Part Body). Sure (way (rows + 1))) (ltb rows row_limit) (λ _. tt) (λ _. tt))
       (λ _. cond_all Sure (eqb w.kind no_kind) (λ _. tt) (λ _. tt))
 
-  pub end_some : (at rows : ℕ) {v : Read} (old new : List ℕ) → TaskEndTold s at rows v → Unmoved old new v
+  pub end_some : (at rows : ℕ) {v : Part ⊤} (old new : List ℕ) → TaskEndTold s at rows v → Unmoved old new v
   end_some at rows old new f e = absurd (sure_told (task_end s empty (word_at s at) rows) (end_sure empty (word_at s at) rows) (sym e ∙ f empty))
 
 -- SEVERAL TASKS
@@ -88,7 +88,7 @@ pub record TaskLap (s : List ℕ) (channels left at rows a' n : ℕ) (bs : List 
   pub size : n ≡ suc (rows + size_b one)
 
 module _ (s : List ℕ) (channels left at rows : ℕ) where
-  pub task_lap : {a' n : ℕ} {v : Read} {bs : List Body} {a r : ℕ} → (left ≡ 0 → ⊥) → v ≡ Read.Done a' n → TaskTold s channels at rows left v → tasks_from s channels left at rows ≡ got bs a r
+  pub task_lap : {a' n : ℕ} {v : Part ⊤} {bs : List Body} {a r : ℕ} → (left ≡ 0 → ⊥) → v ≡ got tt a' n → TaskTold s channels at rows left v → tasks_from s channels left at rows ≡ got bs a r
       → TaskLap s channels left at rows a' n bs a r
   unfolding tasks_from
   task_lap {a'} {n} l q h e =
@@ -98,7 +98,7 @@ module _ (s : List ℕ) (channels left at rows : ℕ) where
       let y = many_got _ _ _ left at rows e g.1 (left - 1) z in
       record { one = g.0; rest = y.0; fewer = left - 1; left_is = sym z; is = g.1; rest_is = y.1; whole = y.2; size = b.0 }
 
-  pub tasks_done : {v : Read} {bs : List Body} {a r : ℕ} → Stops v → TaskTold s channels at rows left v → tasks_from s channels left at rows ≡ got bs a r → bs ≡ []
+  pub tasks_done : {v : Part ⊤} {bs : List Body} {a r : ℕ} → Stops v → TaskTold s channels at rows left v → tasks_from s channels left at rows ≡ got bs a r → bs ≡ []
   unfolding tasks_from
   tasks_done q h e = sym (same_got (many_last _ _ _ left at rows e (rw h at q))).0
 
@@ -123,7 +123,7 @@ pub tasks_none : (bs : List Body) (old : List ℕ) (i rows k : ℕ) (oldf : List
 unfolding all_of notes_b first_rows
 tasks_none bs old i rows k oldf e = (rw e, rw e)
 
-pub tasks_refusal : (p : Part (List Body)) {n place : ℕ} {bs : List Body} {a r : ℕ} → Counted.Refused n place ≡ counted length 0 p → p ≡ got bs a r → ⊥
+pub tasks_refusal : (p : Part (List Body)) {n place : ℕ} {bs : List Body} {a r : ℕ} → bad n place ≡ counted length 0 p → p ≡ got bs a r → ⊥
 unfolding counted
 tasks_refusal (got xs a r) h e = let z : ◌≡◌ {A = ℕ} 0 1 = cc in omega arith
 tasks_refusal none h e = none_got e
@@ -131,16 +131,16 @@ tasks_refusal (bad n place) h e = bad_got e
 
 -- A WHOLE TEXT
 
-job_cut : (p : Part Job) {n place : ℕ} {j : Job} {a r : ℕ} → Reading.Refused n place ≡ told_job p → p ≡ got j a r → ⊥
+job_cut : (p : Part Job) {n place : ℕ} {j : Job} {a r : ℕ} → Err (n, place) ≡ told_job p → p ≡ got j a r → ⊥
 unfolding told_job
 job_cut (got x a r) h e = let z : ◌≡◌ {A = ℕ} 0 1 = cc in omega arith
 job_cut none h e = none_got e
 job_cut (bad n place) h e = bad_got e
 
-pub stopped_job : (p : Part Job) (old new oldf newf : List ℕ) {n place : ℕ} → Reading.Refused n place ≡ told_job p → (Reading.Refused n place ≡ told_job p) × JobNoted p old new oldf newf
+pub stopped_job : (p : Part Job) (old new oldf newf : List ℕ) {n place : ℕ} → Err (n, place) ≡ told_job p → (Err (n, place) ≡ told_job p) × JobNoted p old new oldf newf
 stopped_job p old new oldf newf f = (f, λ j a r e. absurd (job_cut p f e))
 
-pub job_noted : (s : List ℕ) (old new oldf newf : List ℕ) {v : Counted} {from before n : ℕ} → v ≡ Counted.Done from before n → ChansTold s v → TasksNoted s n from before old new oldf newf → JobNoted (job s) old new oldf newf
+pub job_noted : (s : List ℕ) (old new oldf newf : List ℕ) {v : Part ℕ} {from before n : ℕ} → v ≡ got n from before → ChansTold s v → TasksNoted s n from before old new oldf newf → JobNoted (job s) old new oldf newf
 job_noted s old new oldf newf {v} {from} {before} {n} q h f j a r e =
     let p = job_parts s j a r e in
     let d = counted_done length (chans_from s channel_limit 0 0) (sym q ∙ h) in

@@ -9,9 +9,6 @@ use Rattle.translate.proofs.writing.lay_capacities.Given as goal
 
 abbrev pub invariant-loop-n : goal.invariant-loop-n
 invariant-loop-n l =
-    (l.n ≤ l.channels) × (length l.out ≡ length l.initial.out)
+    (length l.out ≡ length l.initial.out)
     × ((ns : List ℕ) (a r : ℕ) → chans_from l.text channel_limit 0 0 ≡ got ns a r → l.channels ≡ length ns
     → (ds : List ℕ) × (chans_from l.text (channel_limit - l.n) l.at 0 ≡ got ds a r) × (l.channels ≡ l.n + length ds) × (sets l.out (l.base + l.n) ds ≡ sets l.initial.out l.base ns))
-
-abbrev pub decreases-loop-n : goal.decreases-loop-n
-decreases-loop-n l = l.channels - l.n

@@ -7,7 +7,4 @@ use Rattle.translate.proofs.writing.lay_firsts.Given as goal
 
 abbrev pub invariant-loop-t : goal.invariant-loop-t
 invariant-loop-t l =
-    (l.t ≤ l.tasks) × (length l.out ≡ length l.initial.out) × (sets l.out (l.base + 2 * l.t) (pairs (drop l.t (take l.tasks l.firsts))) ≡ sets l.initial.out l.base (pairs (take l.tasks l.firsts)))
-
-abbrev pub decreases-loop-t : goal.decreases-loop-t
-decreases-loop-t l = l.tasks - l.t
+    (length l.out ≡ length l.initial.out) × (sets l.out (l.base + 2 * l.t) (pairs (drop l.t (take l.tasks l.firsts))) ≡ sets l.initial.out l.base (pairs (take l.tasks l.firsts)))

@@ -2,35 +2,57 @@ use mathlib.Core.Path.{refl, sym, ◌∙◌}
 use Prim.Native.Nat.{suc}
 use native.Mathlib.Omega.{arith}
 use Rattle.meaning.specs.Numbers.{row_limit}
+use Rattle.text_reader.specs.Answers.{told_as}
+use Rattle.text_reader.specs.Laws.Answered as is
 use Rattle.text_reader.specs.Laws.Parts.{bind_done, bind_stop}
 use Rattle.text_reader.specs.Laws.Jobs.{task_stop, task_begun}
 use Rattle.translate_rows.specs.Laws.Laps.{bind_told}
-use Rattle.translate_rows.specs.Laws.Noted.{body_some}
-use Rattle.translate_rows.specs.Laws.Tasks.{end_got, task_noted, stopped_task, end_some}
-use Rattle.translate_rows.proofs.Stops.{stops}
+use Rattle.translate_rows.specs.Laws.Noted.{stop_by, refused_some, done_some}
+use Rattle.translate_rows.specs.Laws.Tasks.{end_got, task_noted, stopped_task}
+use Rattle.translate_rows.proofs.Stops.{exit}
 use Rattle.translate_rows.proofs.tasks.read_task.Goals as goal
 
+pub returns-in_err-inside : goal.returns-in_err-inside
+returns-in_err-inside c =
+    let args = c.args in
+    let y = is.as_bad c.in_err-inside.was in
+    rw (is.as_bad (exit c.from_residual.result c.from_residual.ensures.1))
+    (stopped_task args.text.now args.channels args.from.at args.from.rows args.left _ _ tt (sym y ∙ task_stop args.text.now args.channels args.from.at args.from.rows args.left c.read_task_head.ensures (stop_by y tt)) (refused_some _ _ _ _))
+
 pub returns-in_default : goal.returns-in_default
+unfolding told_as
 returns-in_default c =
     let args = c.args in
-    let read-task-head = c.read_task_head-head in
-    stopped_task args.text.now args.channels args.at args.rows args.left _ _ (stops read-task-head.result c.in_default.not-Done) (task_stop args.text.now args.channels args.at args.rows args.left read-task-head.ensures (stops read-task-head.result c.in_default.not-Done)) (λ _. refl)
+    let y = is.as_none c.in_ok-inside.was c.in_default.not-Some in
+    stopped_task args.text.now args.channels args.from.at args.from.rows args.left _ _ tt (sym y ∙ task_stop args.text.now args.channels args.from.at args.from.rows args.left c.read_task_head.ensures (stop_by y tt)) (λ _. refl)
 
-pub returns-in_default-body : goal.returns-in_default-body
-returns-in_default-body c =
-    let read-body = c.read_body-body in
+pub returns-in_err-body : goal.returns-in_err-body
+returns-in_err-body c =
     let args = c.args in
-    let s = stops read-body.result c.in_default-body.not-Done in stopped_task args.text.now args.channels args.at args.rows args.left _ _ s (rw (task_begun args.text.now args.channels args.at args.rows args.left c.read_task_head-head.ensures c.in-Done.is) (bind_stop _ _ s (read-body.ensures.0 (suc row_limit) (omega arith)))) (body_some _ _ _ _ _ _ _ read-body.ensures.0)
+    let y = is.told_bad c.in_err-body.was in
+    let b = task_begun args.text.now args.channels args.from.at args.from.rows args.left c.read_task_head.ensures (is.as_some c.in_ok-inside.was c.in-Some.is) in
+    rw (is.as_bad (exit c.from_residual-in_err-body.result c.from_residual-in_err-body.ensures.1))
+    (stopped_task args.text.now args.channels args.from.at args.from.rows args.left _ _ tt (rw b.1 (sym y ∙ bind_stop _ _ (stop_by y tt) (c.read_body.ensures.0 (suc row_limit) (omega arith)))) (refused_some _ _ _ _))
+
+pub returns-in_err-end : goal.returns-in_err-end
+returns-in_err-end c =
+    let args = c.args in
+    let d = is.told_got c.in_ok-body.was in
+    let b = task_begun args.text.now args.channels args.from.at args.from.rows args.left c.read_task_head.ensures (is.as_some c.in_ok-inside.was c.in-Some.is) in
+    rw (is.as_bad (exit c.from_residual-in_err-end.result c.from_residual-in_err-end.ensures.1))
+    (stopped_task args.text.now args.channels args.from.at args.from.rows args.left _ _ tt (rw b.1 (bind_done _ _ _ d (c.read_body.ensures.0 (suc row_limit) (omega arith)) (λ x. sym (is.told_bad c.in_err-end.was) ∙ c.read_task_end.ensures x))) (refused_some _ _ _ _))
 
 pub returns : goal.returns
+unfolding told_as
 returns c =
     let args = c.args in
-    let read-task-head = c.read_task_head-head in
-    let read-body = c.read_body-body in (
-      rw (task_begun args.text.now args.channels args.at args.rows args.left read-task-head.ensures c.in-Done.is) (bind_done _ _ _ c.in-Done-body.is (read-body.ensures.0 (suc row_limit) (omega arith)) (λ b. c.read_task_end.ensures b)),
+    let read-body = c.read_body in
+    let d = is.told_got c.in_ok-body.was in
+    let g = task_begun args.text.now args.channels args.from.at args.from.rows args.left c.read_task_head.ensures (is.as_some c.in_ok-inside.was c.in-Some.is) in (
+      rw g.1 (bind_done _ _ _ d (read-body.ensures.0 (suc row_limit) (omega arith)) (λ b. sym (is.told_got c.in_ok-end.was) ∙ c.read_task_end.ensures b)),
       λ b a r e.
-          let w = bind_told _ _ c.in-Done-body.is (read-body.ensures.0 (suc row_limit) (omega arith)) (sym (task_begun args.text.now args.channels args.at args.rows args.left read-task-head.ensures c.in-Done.is) ∙ e) in
+          let w = bind_told _ _ d (read-body.ensures.0 (suc row_limit) (omega arith)) (sym g.1 ∙ e) in
           let q = end_got args.text.now args.channels w.0 _ _ w.2 in
-          task_noted args.text.now args.channels _ args.rows w.0 b _ w.1 q (read-body.ensures.1 (suc row_limit) w.0 _ _ (omega arith) w.1) c.note.ensures,
-      end_some args.text.now args.channels _ _ _ _ c.read_task_end.ensures,
+          rw (← g.0) (task_noted args.text.now args.channels _ _ w.0 b _ w.1 q (read-body.ensures.1 (suc row_limit) w.0 _ _ (omega arith) w.1) c.note.ensures),
+      done_some _ _ refl,
     )

@@ -1,5 +1,5 @@
 use Rattle.translate_notes.specs.Notes.{op_code, op_port}
-use Rattle.translate_notes.proofs.op_head.Goals as goal
+use Rattle.translate_notes.proofs.head_from.Goals as goal
 
 pub returns-in-Send : goal.returns-in-Send
 unfolding op_code op_port
