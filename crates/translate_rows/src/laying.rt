@@ -32,6 +32,7 @@ fn lay_cases(
     let mut left = cases;
     let mut line = top.0;
     let mut i = start.0;
+    // Kept, point 3: a `for` is no plainer, as it would hand on the line alone: r and i go on by the size of each note.
     while 0 < left {
         let at = 3 * (r as usize);
         let head = notes[at];
@@ -62,6 +63,7 @@ fn lay_bodies(
     let mut r = from;
     let mut left = cases;
     let mut i = start.0;
+    // Kept, point 3: a `for` is no plainer, as it would hand on nothing that is used: r and i go on by the size of each note.
     while 0 < left {
         let size = notes[3 * (r as usize) + 2];
         lay_body(notes, r + 1, r + size, Row(i), after, out);
@@ -119,6 +121,7 @@ pub(crate) fn lay_body(
 {
     let mut r = from;
     let mut i = start.0;
+    // Kept, point 3: each lap goes on by the size of its note, not by one.
     while r < end {
         let size = notes[3 * (r as usize) + 2];
         let behind = r + size;

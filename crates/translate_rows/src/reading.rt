@@ -2,9 +2,10 @@
 // noted behind them, once all of its rows are known, so that every note is stored once. `depth` is the number of blocks around the
 // body that is read; it needs no stack but the calls themselves, at most six blocks deep. Every refusal is decided below, in text_heads
 // and text_blocks.
-ghost use Rattle.std.specs.Prelude.{◌<◌, ◌≤◌};
+ghost use Rattle.std.specs.Prelude.{◌≡◌, ◌<◌, ◌≤◌};
 ghost use Rattle.meaning.specs.Numbers.{row_limit};
 ghost use Rattle.text_reader.specs.Answers.{due_told, told_as, count_told, BodyTold, BlockTold, SecondTold, IfokTold, CaseTold, CasesTold, LastTold, SelectTold, StmtTold};
+ghost use Rattle.translate_notes.specs.Notes.{noted};
 ghost use Rattle.translate_rows.specs.Noted.{BodyNoted, StmtNoted, BlockNoted, SecondNoted, IfokNoted, SelectNoted, CaseNoted, CasesNoted, LastNoted, Unmoved};
 
 use meaning::sizes::CASES;
@@ -28,6 +29,13 @@ const IFOK_HEAD: u16 = 7;
 const SELECT_OP: u8 = 8;
 
 pub(crate) const STOP_HEAD: u16 = 12;
+
+// A statement of one row is noted.
+pub(crate) fn note_one(notes: &mut [u16; NOTES], row: Row, head: u16, arg: u16)
+    ensures { notes.new ≡ noted notes.old row.0 head arg 1 }
+{
+    note(notes, row, RowNote { head, arg, size: 1 });
+}
 
 // A body and the `end` of its block, whose row and note are told.
 #[cycle(reading)]
@@ -202,41 +210,16 @@ fn read_stmt(
     };
     match first.value {
         Head::Operate(o) => {
-            let head = op_head(o);
-            note(
-                notes,
-                row,
-                RowNote {
-                    head,
-                    arg: op_arg(o),
-                    size: 1,
-                },
-            );
+            note_one(notes, row, op_head(o), op_arg(o));
             Ok(Some(inside))
         }
         Head::Close(p) => {
             let head = head_of(CLOSE_OP, u8::from(p));
-            note(
-                notes,
-                row,
-                RowNote {
-                    head,
-                    arg: 0,
-                    size: 1,
-                },
-            );
+            note_one(notes, row, head, 0);
             Ok(Some(inside))
         }
         Head::Stop => {
-            note(
-                notes,
-                row,
-                RowNote {
-                    head: STOP_HEAD,
-                    arg: 0,
-                    size: 1,
-                },
-            );
+            note_one(notes, row, STOP_HEAD, 0);
             Ok(Some(inside))
         }
         Head::Range(p) => {

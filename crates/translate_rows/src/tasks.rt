@@ -4,14 +4,14 @@ ghost use Rattle.text_reader.specs.Answers.{due_told, told_as, count_told, numbe
 ghost use Rattle.text_reader.specs.Reading.{job, reading};
 ghost use Rattle.translate_rows.specs.Noted.{Unmoved, TaskNoted, TasksNoted, JobNoted};
 
-use crate::reading::{STOP_HEAD, read_body};
+use crate::reading::{STOP_HEAD, note_one, read_body};
 use meaning::Row;
 use meaning::sizes::TASKS;
 use text_jobs::{read_chans, read_task_end, read_task_head};
 use text_reader::kinds::TEXT_LIMIT;
 use text_reader::{Counted, Fault, JobSize, Position, Refused};
 use text_words::first_not_allowed;
-use translate_notes::{NOTES, RowNote, note};
+use translate_notes::NOTES;
 
 // `task` BODY `end`, where so many are left; nothing where the text has stopped. Its end is noted as a stop.
 fn read_task(
@@ -27,12 +27,7 @@ fn read_task(
         return Ok(None);
     };
     let body = read_body(text, channels, 0, inside, notes)?;
-    let stop = RowNote {
-        head: STOP_HEAD,
-        arg: 0,
-        size: 1,
-    };
-    note(notes, Row(body.rows), stop);
+    note_one(notes, Row(body.rows), STOP_HEAD, 0);
     let end = read_task_end(text, body)?;
     Ok(Some(end))
 }

@@ -1,9 +1,9 @@
-use Rattle.std.proofs.Common.{sym, ap, ◌∙◌, arith}
+use Rattle.std.proofs.Common.{◌∙◌, arith}
 use Prim.Native.Nat.{◌+◌, ◌-◌}
 use Rattle.std.proofs.lemmas.Result.{err_from_is_err_and}
 use Rattle.meaning.specs.Numbers.{channel_limit}
 use Rattle.text_reader.specs.Answers.{count_told}
-use Rattle.text_reader.specs.Laws.Answered.{part_some, part_none, part_bad, count_bad, count_got}
+use Rattle.text_reader.specs.Laws.Answered.{part_some, part_none, part_bad, count_bad}
 use Rattle.text_reader.specs.Laws.Jobs.{chans_step, chans_end, chans_refused}
 use Rattle.text_jobs.proofs.read_chans.Goals as goal
 

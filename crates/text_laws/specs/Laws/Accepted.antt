@@ -1,6 +1,6 @@
 -- Every text that the reader accepts is a proper job, whose rows the reader has counted; so its image passes the image check,
 -- gives the same turns as the text, and has the length that those rows call for.
-use Rattle.std.specs.Prelude.{◌≡◌, List, ◌++◌, map, ℕ, ◌+◌, ◌≤◌, length, Option, Some, None, Ok}
+use Rattle.std.specs.Prelude.{◌≡◌, List, ◌++◌, map, ℕ, ◌+◌, ◌≤◌, length, None, Ok}
 use Rattle.std.proofs.Common.{ap, sym, subst, ◌∙◌}
 use Rattle.text_laws.specs.Kinds.{Task}
 use Rattle.meaning.specs.Numbers.{text_limit}

@@ -1,5 +1,5 @@
 -- What a refusal says of a text: its number, and the place that the table 'given when / place' names for that number.
-use Rattle.std.specs.Prelude.{◌≡◌, Bool, false, List, eqb, leb, get_or, drop, Option, Some, None}
+use Rattle.std.specs.Prelude.{◌≡◌, Bool, false, List, eqb, leb, get_or, drop, Some, None}
 use Rattle.std.proofs.Math.Path.{refl, sym, ap, subst}
 use Rattle.std.proofs.Common.{◌∙◌, true≢false}
 use Rattle.std.proofs.Math.Bool.{true}

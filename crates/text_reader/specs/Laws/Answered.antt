@@ -1,8 +1,7 @@
 -- The part that an answer stands for, by what the answer is: a part, none, or a refusal. Assumes nothing.
-use Rattle.std.specs.Prelude.{◌≡◌, refl, ℕ, Option, Some, None, Result, Ok, Err, ⊤}
-use Rattle.std.proofs.Common.{◌∙◌}
-use Rattle.text_reader.specs.Kinds.{Op, Refused, Got, Position, Counted, CaseHead, JobSize}
-use Rattle.text_reader.specs.Reading.{Part, got, none}
+use Rattle.std.specs.Prelude.{◌≡◌, refl, ℕ, Option, Some, None, Result, Ok, Err}
+use Rattle.text_reader.specs.Kinds.{Refused, Got, Position, Counted, CaseHead, JobSize}
+use Rattle.text_reader.specs.Reading.{got, none}
 use Rattle.text_reader.specs.Answers.{fault_number, numbered, refusal, due_part, part_of, due_told, told_as, case_part, count_told}
 
 -- An option that is not `Some`.

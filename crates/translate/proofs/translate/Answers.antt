@@ -1,4 +1,4 @@
-use Rattle.std.proofs.Common.{arith, sym, ap, ◌∙◌}
+use Rattle.std.proofs.Common.{arith}
 use Rattle.std.proofs.lemmas.Result.{err_from_is_err_and}
 use Rattle.translate_rows.specs.Laws.Read.{is_job, in_limits}
 use Rattle.translate.specs.Laws.Read.{passed_got, passed_bad, passed_firsts, refused_as, too_short, translated_as, image_whole}

@@ -377,7 +377,7 @@ read_stmt-returns-in-Operate t c =
     let i = part_as c.in_ok-first.was c.in-Some.is c.in-Operate.is in
     let f = head_told args.text.now args.channels args.depth args.from.at args.from.rows i c.read_head.ensures in (
       λ k h. done_told _ _ _ ∙ head_stmt _ _ _ _ _ i c.read_head.ensures _,
-      λ k x a r h e. operate_noted args.depth args.from.rows args.notes.now (omega arith) _ (same_got (head_as args.text.now args.channels args.depth args.from.at args.from.rows i c.read_head.ensures (body_from k args.text.now args.channels (args.depth + 1)) e)).0 c.note.ensures c.op_head-head.ensures c.op_arg.ensures,
+      λ k x a r h e. operate_noted args.depth args.from.rows args.notes.now (omega arith) _ (same_got (head_as args.text.now args.channels args.depth args.from.at args.from.rows i c.read_head.ensures (body_from k args.text.now args.channels (args.depth + 1)) e)).0 c.note_one.ensures c.op_head.ensures c.op_arg.ensures,
       done_some _ _ refl,
     )
 
@@ -388,7 +388,7 @@ read_stmt-returns-in-Close t c =
     let i = part_as c.in_ok-first.was c.in-Some.is c.in-Close.is in
     let f = head_told args.text.now args.channels args.depth args.from.at args.from.rows i c.read_head.ensures in (
       λ k h. done_told _ _ _ ∙ head_stmt _ _ _ _ _ i c.read_head.ensures _,
-      λ k x a r h e. close_noted args.depth args.from.rows args.notes.now (omega arith) _ (same_got (head_as args.text.now args.channels args.depth args.from.at args.from.rows i c.read_head.ensures (body_from k args.text.now args.channels (args.depth + 1)) e)).0 c.note-in-Close.ensures (c.head_of-head.ensures ∙ ap (λ (n : ℕ). 4 + 256 * n) c.from.ensures),
+      λ k x a r h e. close_noted args.depth args.from.rows args.notes.now (omega arith) _ (same_got (head_as args.text.now args.channels args.depth args.from.at args.from.rows i c.read_head.ensures (body_from k args.text.now args.channels (args.depth + 1)) e)).0 c.note_one-in-Close.ensures (c.head_of-head.ensures ∙ ap (λ (n : ℕ). 4 + 256 * n) c.from.ensures),
       done_some _ _ refl,
     )
 
@@ -399,7 +399,7 @@ read_stmt-returns-in-Stop t c =
     let i = part_as c.in_ok-first.was c.in-Some.is c.in-Stop.is in
     let f = head_told args.text.now args.channels args.depth args.from.at args.from.rows i c.read_head.ensures in (
       λ k h. done_told _ _ _ ∙ head_stmt _ _ _ _ _ i c.read_head.ensures _,
-      λ k x a r h e. stop_noted args.depth args.from.rows args.notes.now (omega arith) (same_got (head_as args.text.now args.channels args.depth args.from.at args.from.rows i c.read_head.ensures (body_from k args.text.now args.channels (args.depth + 1)) e)).0 c.note-in-Stop.ensures,
+      λ k x a r h e. stop_noted args.depth args.from.rows args.notes.now (omega arith) (same_got (head_as args.text.now args.channels args.depth args.from.at args.from.rows i c.read_head.ensures (body_from k args.text.now args.channels (args.depth + 1)) e)).0 c.note_one-in-Stop.ensures,
       done_some _ _ refl,
     )
 

@@ -53,6 +53,6 @@ returns c =
       λ b a r e.
           let w = bind_told _ _ d (read-body.ensures.0 (suc row_limit) (omega arith)) (sym g.1 ∙ e) in
           let q = end_got args.text.now args.channels w.0 _ _ w.2 in
-          rw (← g.0) (task_noted args.text.now args.channels _ _ w.0 b _ w.1 q (read-body.ensures.1 (suc row_limit) w.0 _ _ (omega arith) w.1) c.note.ensures),
+          rw (← g.0) (task_noted args.text.now args.channels _ _ w.0 b _ w.1 q (read-body.ensures.1 (suc row_limit) w.0 _ _ (omega arith) w.1) c.note_one.ensures),
       done_some _ _ refl,
     )
