@@ -5,6 +5,7 @@
 
 ghost use Rattle.std.specs.Prelude.{◌≡◌};
 ghost use Rattle.meaning.specs.Events.{port_number};
+ghost use Rattle.meaning.specs.Statuses.{status_number, status_of};
 
 pub mod sizes;
 
@@ -12,17 +13,17 @@ use sizes::NIL;
 
 // Document 01, 'Step image': a task number and a channel number both run from 0 to 15 and are kept apart by kind; so is
 // the number of a row.
-#[derive(Clone, Copy)]
+#[derive(Clone, Copy, PartialEq, Eq)]
 pub struct Task(pub u8);
 
-#[derive(Clone, Copy)]
+#[derive(Clone, Copy, PartialEq, Eq)]
 pub struct Chan(pub u8);
 
-#[derive(Clone, Copy)]
+#[derive(Clone, Copy, PartialEq, Eq)]
 pub struct Row(pub u16);
 
 // A channel, or nil.
-#[derive(Clone, Copy)]
+#[derive(Clone, Copy, PartialEq, Eq)]
 pub enum Port {
     Nil,
     On(Chan),
@@ -67,12 +68,37 @@ pub struct Fields {
     pub other: u16,
 }
 
-// The three states of a task that a listing prints as 0, 1, 2.
+// The three states of a task that a listing prints as 0, 1, 2, and a state's cells hold so.
 #[derive(Clone, Copy)]
 pub enum Status {
     Able,
     Waiting,
     Ended,
+}
+
+impl From<Status> for u8 {
+    fn from(status: Status) -> u8
+        ensures { result ≡ status_number status }
+    {
+        match status {
+            Status::Able => 0,
+            Status::Waiting => 1,
+            Status::Ended => 2,
+        }
+    }
+}
+
+// A number over 2 reads as 2 does.
+impl From<u8> for Status {
+    fn from(number: u8) -> Status
+        ensures { result ≡ status_of number }
+    {
+        match number {
+            0 => Status::Able,
+            1 => Status::Waiting,
+            _ => Status::Ended,
+        }
+    }
 }
 
 // What a turn reports. specs/Events.antt gives document 01's four numbers for each.
