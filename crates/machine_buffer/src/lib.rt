@@ -41,8 +41,8 @@ fn move_up(row: &mut [u16])
 fn clear(row: &mut [u16], from: usize)
     ensures { row.new ≡ over (take from row.old) (replicate (length row.old) 0) }
 {
-    let first = from.min(row.len());
-    row[first..].fill(0);
+    let size = row.len();
+    row[from.min(size)..].fill(0);
 }
 
 // A row of len values without the oldest, zeros behind the others.

@@ -89,6 +89,7 @@ fn first_case(body: &[u8], side: Side, c: Chan, k: u8, row: Row) -> Option<u32>
 
 // The number of the row, or case row, by which a task that waits at a row is served on this side of the channel; a select's by its
 // first matching case.
+#[tactic(auto, unfolding(crate::specs::Served::served_at))]
 fn served_at(body: &[u8], side: Side, c: Chan, row: Row) -> Option<u32>
     ensures { result ≡ served_at body.now side c row }
 {
