@@ -7,11 +7,12 @@ ghost use Rattle.std.specs.Prelude.{◌≡◌, ◌%◌, length, slice_index_or};
 ghost use Rattle.meaning.specs.Image.{task_no};
 ghost use Rattle.meaning.specs.Numbers.{task_limit};
 ghost use Rattle.machine_records.specs.Records.{task_in, chan_in, lap_of, halted, ticked, with_counts, with_chan, task_got, task_went, task_stood, task_lapped};
-ghost use Rattle.machine_store.specs.Store.{records_of, RowIn, Made};
+ghost use Rattle.machine_records.specs.Plans.{did};
+ghost use Rattle.machine_store.specs.Store.{records_of, RowIn, Made, MadeTurn};
 
-use machine_records::{ChanState, TaskState};
+use machine_records::{ChanState, Change, Moved, TaskState};
 use meaning::sizes::{CHANS, DEPTH, TASKS};
-use meaning::{Chan, Row, Status, Task};
+use meaning::{Chan, Event, Row, Status, Task};
 
 // Of `words`: each task's row, then each task's register, then the stamp.
 pub const REGISTER: usize = TASKS as usize;
@@ -214,5 +215,12 @@ impl State {
         ensures { Made self.old self.new (λ s. ticked s) }
     {
         self.words[STAMP] = self.words[STAMP].wrapping_add(1);
+    }
+    // The turn is done: the stamp rises, and this is what it answers.
+    pub fn done(&mut self, event: Event, change: Change) -> Moved
+        ensures { MadeTurn self.old self.new result (λ s. did event s change) }
+    {
+        self.tick();
+        Moved { event, change }
     }
 }

@@ -347,3 +347,7 @@ made_turn m e h p a b = record { same = rw (a, b, p.same); plain = p.plain }
 
 pub turn_as_lem : {x y : State} {m : Moved} {f : Records → Done} (g : Records → Done) → MadeTurn x y m f → f (records_of x) ≡ g (records_of x) → MadeTurn x y m g
 turn_as_lem g p e = record { same = p.same ∙ e; plain = p.plain }
+
+-- A turn whose last changes are a turn of their own.
+pub turn_then : {x y z : State} {m : Moved} {f : Records → Records} {g : Records → Done} → Made x y f → MadeTurn y z m g → MadeTurn x z m (λ s. g (f s))
+turn_then {g = g} p q = record { same = q.same ∙ ap g p.same; plain = λ a. q.plain (p.plain a) }
