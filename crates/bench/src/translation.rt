@@ -4,7 +4,7 @@ ghost use Rattle.image_check.specs.Check.{checked};
 ghost use Rattle.translate.specs.Translated.{translated, written};
 ghost use Rattle.bench.specs.Translation.{length_of, refusal_of};
 
-use image_check::{Checked, check};
+use image_check::check;
 use translate::{Translated, translate};
 
 // The image's length, or 0 where the text is refused.
@@ -22,7 +22,7 @@ pub fn bench_check(image: &[u8]) -> u32
     ensures { result ≡ refusal_of (checked image.now) }
 {
     match check(image) {
-        Checked::Good => 0,
-        Checked::Refused(number, place) => number as u32 + 256 * (place as u32),
+        Ok(()) => 0,
+        Err(fault) => u32::from(fault.number()) + 256 * u32::from(fault.place()),
     }
 }

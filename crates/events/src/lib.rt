@@ -7,7 +7,7 @@ ghost use Rattle.std.proofs.lemmas.List.Edits.{sets};
 ghost use Rattle.meaning.specs.Events.{event, numbers};
 ghost use Rattle.events.specs.Record.{event_record, record_put};
 
-use meaning::{Event, EventNumbers, Task, port_number};
+use meaning::{Event, EventNumbers, Task};
 
 // The bytes of an event record.
 pub const RECORD_SIZE: usize = 6;
@@ -16,14 +16,15 @@ fn numbers_of(number: u8, channel: u8, value: u16, partner: u8) -> EventNumbers
     ensures { result ≡ event number channel value partner }
 {
     EventNumbers {
-        number: number,
-        channel: channel,
-        value: value,
-        partner: partner,
+        number,
+        channel,
+        value,
+        partner,
     }
 }
 
 // The number, channel, value and partner of an event.
+#[tactic(auto, unfolding(meaning::specs::Events::numbers))]
 pub fn event_numbers(event: Event) -> EventNumbers
     ensures { result ≡ numbers event }
 {
@@ -34,11 +35,11 @@ pub fn event_numbers(event: Event) -> EventNumbers
         Event::Refilled(c, v, q) => numbers_of(3, c.0, v, q.0),
         Event::Received(c, v, q) => numbers_of(4, c.0, v, q.0),
         Event::Drained(c) => numbers_of(5, c.0, 0, 255),
-        Event::Closed(c, n) => numbers_of(6, c.0, n as u16, 255),
+        Event::Closed(c, n) => numbers_of(6, c.0, u16::from(n), 255),
         Event::Waits => numbers_of(7, 255, 0, 255),
         Event::Branched => numbers_of(8, 255, 0, 255),
         Event::Finished => numbers_of(9, 255, 0, 255),
-        Event::Faulted(p, f, t) => numbers_of(10, port_number(p), f as u16, t.0),
+        Event::Faulted(p, f, t) => numbers_of(10, u8::from(p), u16::from(f), t.0),
         Event::Refused(n) => numbers_of(n, 255, 0, 255),
     }
 }
@@ -58,6 +59,7 @@ fn put_six(out: &mut [u8], i: usize, task: Task, e: EventNumbers)
 
 // The record of an event of this task, the task that was asked for, at a place of a slice. Where it has no room there, the slice
 // stays as it is.
+#[tactic(auto, unfolding(crate::specs::Record::record_put))]
 pub fn put_record(out: &mut [u8], at: usize, task: Task, event: Event)
     ensures { out.new ≡ record_put out.old at task (numbers event) }
 {

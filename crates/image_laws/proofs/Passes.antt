@@ -1,5 +1,5 @@
 -- The image of a proper job passes the image check: from the facts that its rows keep to, each test in turn.
-use Rattle.std.specs.Prelude.{◌≡◌, Bool, true, false, cond, ◌&&◌, eqb, length}
+use Rattle.std.specs.Prelude.{◌≡◌, Bool, true, false, cond, ◌&&◌, eqb, length, Option, None, Result, Ok, Err, ⊤}
 use Rattle.std.proofs.Math.Path.{refl, ap}
 use Rattle.std.proofs.Common.{sym, ap₂, subst, ◌∙◌, add-zero, length-append}
 use Rattle.std.proofs.Math.Bool.{not}
@@ -8,8 +8,8 @@ use Prim.Native.Nat.{ℕ, zero, suc, ◌+◌, ◌-◌, ◌≤◌, ◌<◌}
 use native.Mathlib.Omega.{arith}
 use borrow.Author.Tests.{lt-ltb, le-ltb, le-leb, eq-eqb}
 use Rattle.std.proofs.Math.Dec.{ltb}
-use Rattle.image_laws.specs.Kinds.{Row, Port, Nil, On, Op, Send, Forward, Recv, Otherwise, Wait, Go, Statement, Do, Close, Range, Repeat, Ifok, Select, Case, Stop, Fields, Counts, Checked, Good, Refused, First, Nowhere}
-use Rattle.meaning.specs.Numbers.{capacity_limit, case_limit, lap_limit, depth_limit, image_too_short, bad_mark, bad_version, bad_counts, bad_distance, bad_row, bad_capacity, bad_first_row}
+use Rattle.image_laws.specs.Kinds.{Row, Port, Nil, On, Op, Send, Forward, Recv, Otherwise, Wait, Go, Statement, Do, Close, Range, Repeat, Ifok, Select, Case, Stop, Fields, Counts, ImageFault, TooShort, BadMark, BadVersion, BadCounts, BadDistance, BadRow, BadCapacity, BadFirstRow}
+use Rattle.meaning.specs.Numbers.{capacity_limit, case_limit, lap_limit, depth_limit}
 use Rattle.meaning.specs.Text.{Job, Body}
 use Rattle.meaning.specs.Image.{row_no, chan_no, task_no}
 use Rattle.meaning.specs.Layout.{rows_t}
@@ -110,7 +110,7 @@ module _ (rs : List ℕ) where
     unfolding row_bad row_good
     row_passes_lem i x e b h = rw e (ap not (and_true (in_table_lem x b) (rw b (statement_good_lem (owed_at rs i) i x h))))
 
-    rows_pass : (ys : List Statement) (i : ℕ) → Written rs i ys → RowsLawful (rows_in rs) top channels (owed_at rs i) i ys → first_of (row_bad rs top channels) (length ys) i ≡ Nowhere
+    rows_pass : (ys : List Statement) (i : ℕ) → Written rs i ys → RowsLawful (rows_in rs) top channels (owed_at rs i) i ys → first_of (row_bad rs top channels) (length ys) i ≡ None
     unfolding first_of owed_at
     rows_pass [] i v h = refl
     rows_pass (y ∷ ys) i v h =
@@ -128,16 +128,16 @@ module _ (rs : List ℕ) where
 -- THE CHECK
 
 -- A search through what is tabulate, where each thing tabulate is good.
-none_tabulated : {A : Type 0} (bad : ℕ → Bool) (f : ℕ → A) (Q : A → Type 0) → ((i : ℕ) → Q (f i) → bad i ≡ false) → (n i : ℕ) → All Q (tabulate f n i) → first_of bad n i ≡ Nowhere
+none_tabulated : {A : Type 0} (bad : ℕ → Bool) (f : ℕ → A) (Q : A → Type 0) → ((i : ℕ) → Q (f i) → bad i ≡ false) → (n i : ℕ) → All Q (tabulate f n i) → first_of bad n i ≡ None
 unfolding first_of tabulate
 none_tabulated bad f Q good zero i h = refl
 none_tabulated bad f Q good (suc n) i h = rw (good i h.0) (none_tabulated bad f Q good n (suc i) h.1)
 
-refused_at_lem : (n : ℕ) {f : First} {r : Checked} → f ≡ Nowhere → r ≡ Good → refused_at n f r ≡ Good
+refused_at_lem : (fault : ℕ → ImageFault) {f : Option ℕ} {r : Result ⊤ ImageFault} → f ≡ None → r ≡ Ok tt → refused_at fault f r ≡ Ok tt
 unfolding refused_at
 refused_at_lem n e g = rw (e, g)
 
-passed : (n : ℕ) {b : Bool} {r : Checked} → b ≡ false → r ≡ Good → cond b (Refused n 0) r ≡ Good
+passed : (fault : ImageFault) {b : Bool} {r : Result ⊤ ImageFault} → b ≡ false → r ≡ Ok tt → cond b (Err fault) r ≡ Ok tt
 passed n e g = rw (e, g)
 
 -- What the trailer says, as one record.
@@ -171,24 +171,24 @@ module _ (j : Job) (p : Proper j) where
   reads : Holds (rows_in rs) 0 (rows_t j.tasks 0)
   reads = written_holds rs 0 (rows_t j.tasks 0) (written j p)
 
-  no_bad_row : first_of (row_bad rs k.rows k.channels) k.rows 0 ≡ Nowhere
+  no_bad_row : first_of (row_bad rs k.rows k.channels) k.rows 0 ≡ None
   unfolding owed_at
   no_bad_row =
       let xs = rows_t j.tasks 0 in
       rows_pass rs xs (written j p) k.channels xs 0 (written j p) (laid_t (rows_in rs) k.rows k.channels j.tasks 0 p.bodies (omega arith) reads 0)
 
-  no_bad_capacity : first_of (capacity_bad rs k.rows) k.channels 0 ≡ Nowhere
+  no_bad_capacity : first_of (capacity_bad rs k.rows) k.channels 0 ≡ None
   no_bad_capacity = none_tabulated (capacity_bad rs k.rows) (λ c. capacity_in rs k.rows (chan_no c)) (λ n. n ≤ capacity_limit) (capacity_passes rs k.rows) k.channels 0 (rw (capacities_tabulated j) p.capacities)
 
-  no_bad_first : first_of (first_row_bad rs k.rows k.channels) k.tasks 0 ≡ Nowhere
+  no_bad_first : first_of (first_row_bad rs k.rows k.channels) k.tasks 0 ≡ None
   no_bad_first =
       none_tabulated (first_row_bad rs k.rows k.channels) (λ t. first_row_in rs k.rows k.channels (task_no t)) (Aim (rows_in rs) k.rows k.channels)
       (first_passes rs (rows_t j.tasks 0) (written j p) k.channels) k.tasks 0
       (rw (firsts_tabulated j p) (firsts_aim (rows_in rs) k.rows k.channels j.tasks 0 (omega arith) reads))
 
-  body_good : body_checked rs k ≡ Good
+  body_good : body_checked rs k ≡ Ok tt
   unfolding body_checked
-  body_good = refused_at_lem bad_row no_bad_row (refused_at_lem bad_capacity no_bad_capacity (refused_at_lem bad_first_row no_bad_first refl))
+  body_good = refused_at_lem (λ i. BadRow (row_no i)) no_bad_row (refused_at_lem (λ c. BadCapacity (chan_no c)) no_bad_capacity (refused_at_lem (λ t. BadFirstRow (task_no t)) no_bad_first refl))
 
 module _ (pre : List ℕ) (j : Job) (p : Proper j) where
   abbrev bs : List ℕ
@@ -201,12 +201,12 @@ module _ (pre : List ℕ) (j : Job) (p : Proper j) where
   whole : length bs ≡ length pre + ((job_counts j).back + trailer_size)
   whole = length-append pre (job_image j) ∙ ap (length pre +◌) (image-length j)
 
-  pub laid_good : checked (pre ++ job_image j) ≡ Good
+  pub laid_good : checked (pre ++ job_image j) ≡ Ok tt
   unfolding checked
   laid_good =
-      passed image_too_short (le-ltb (length bs) trailer_size (omega (arith, whole)))
-      (passed bad_mark (ap not (eq-eqb (mark_of bs) image_mark (mark_of_back pre j)))
-      (passed bad_version (ap not (eq-eqb (version_of bs) image_version (version_of_back pre j)))
-      (passed bad_counts (ap not (ap counts_good counts_back ∙ counts_good_lem j p))
-      (passed bad_distance (ap (λ k. ltb (length bs - trailer_size) k.back) counts_back ∙ le-ltb (length bs - trailer_size) (job_counts j).back (omega (arith, whole)))
+      passed TooShort (le-ltb (length bs) trailer_size (omega (arith, whole)))
+      (passed BadMark (ap not (eq-eqb (mark_of bs) image_mark (mark_of_back pre j)))
+      (passed BadVersion (ap not (eq-eqb (version_of bs) image_version (version_of_back pre j)))
+      (passed BadCounts (ap not (ap counts_good counts_back ∙ counts_good_lem j p))
+      (passed BadDistance (ap (λ k. ltb (length bs - trailer_size) k.back) counts_back ∙ le-ltb (length bs - trailer_size) (job_counts j).back (omega (arith, whole)))
       (ap₂ body_checked (body_of_back pre j p) counts_back ∙ body_good j p)))))

@@ -11,7 +11,5 @@ pub use Rattle.meaning.specs.declared.Statement.{Statement}
 pub use Rattle.meaning.specs.declared.Statement.TheVariants.{Do, Close, Range, Repeat, Ifok, Select, Case, Stop}
 pub use Rattle.meaning.specs.declared.Fields.{Fields}
 pub use Rattle.image_rows.specs.declared.Counts.{Counts}
-pub use Rattle.image_check.specs.declared.Checked.{Checked}
-pub use Rattle.image_check.specs.declared.Checked.TheVariants.{Good, Refused}
-pub use Rattle.image_check.specs.declared.First.{First}
-pub use Rattle.image_check.specs.declared.First.TheVariants.{Nowhere}
+pub use Rattle.image_check.specs.declared.ImageFault.{ImageFault}
+pub use Rattle.image_check.specs.declared.ImageFault.TheVariants.{TooShort, BadMark, BadVersion, BadCounts, BadDistance, BadRow, BadCapacity, BadFirstRow}

@@ -5,105 +5,74 @@
 ghost use Rattle.std.specs.Prelude.{◌≡◌, ◌+◌, ◌≤◌, length};
 ghost use Rattle.std.proofs.lemmas.List.Edits.{sets};
 ghost use Rattle.image_rows.specs.Rows.{fields_put, row_put};
-ghost use Rattle.image_put.specs.Kinds.{Do, Select, Case};
+ghost use Rattle.image_put.specs.Kinds.{Select};
+ghost use Rattle.image_put.specs.Fields.{op_fields};
 ghost use Rattle.meaning.specs.Bytes.{fields_of, bytes_of};
 
 use meaning::sizes::ROW_SIZE;
-use meaning::{Fields, Op, Otherwise, Row, Statement, port_number};
+use meaning::{Fields, Op, Otherwise, Row, Statement};
 
-// The fields that the table writes for a statement, kind by kind.
-fn do_fields(o: Op, next: Row) -> Fields
-    ensures { result ≡ fields_of (Do o next) }
+// The op of a send, alone and in a case.
+const SEND: u8 = 1;
+
+const CASE_SEND: u8 = 9;
+
+// The fields of an operation, alone or as a case: its op counts on from that of the send, 1 or 9.
+#[tactic(auto, unfolding(crate::specs::Fields::op_fields))]
+fn op_fields(send: u8, o: Op, next: Row) -> Fields
+    requires { send ≤ 9 }
+    ensures { result ≡ op_fields send o next }
 {
-    match o {
-        Op::Send(p, v) => Fields {
-            op: 1,
-            chan: port_number(p),
-            arg: v,
-            next: next.0,
-            other: 0,
-        },
-        Op::Forward(p) => Fields {
-            op: 2,
-            chan: port_number(p),
-            arg: 0,
-            next: next.0,
-            other: 0,
-        },
-        Op::Recv(p) => Fields {
-            op: 3,
-            chan: port_number(p),
-            arg: 0,
-            next: next.0,
-            other: 0,
-        },
+    let (kind, port, arg) = match o {
+        Op::Send(p, v) => (0, p, v),
+        Op::Forward(p) => (1, p, 0),
+        Op::Recv(p) => (2, p, 0),
+    };
+    Fields {
+        op: send + kind,
+        chan: u8::from(port),
+        arg,
+        next: next.0,
+        other: 0,
     }
 }
 
-fn case_fields(o: Op, next: Row) -> Fields
-    ensures { result ≡ fields_of (Case o next) }
-{
-    match o {
-        Op::Send(p, v) => Fields {
-            op: 9,
-            chan: port_number(p),
-            arg: v,
-            next: next.0,
-            other: 0,
-        },
-        Op::Forward(p) => Fields {
-            op: 10,
-            chan: port_number(p),
-            arg: 0,
-            next: next.0,
-            other: 0,
-        },
-        Op::Recv(p) => Fields {
-            op: 11,
-            chan: port_number(p),
-            arg: 0,
-            next: next.0,
-            other: 0,
-        },
-    }
-}
-
+// The fields of a select: its default's first row, where it has one.
+#[tactic(auto, unfolding(meaning::specs::Bytes::fields_of))]
 fn select_fields(cases: u8, e: Otherwise) -> Fields
     ensures { result ≡ fields_of (Select cases e) }
 {
-    match e {
-        Otherwise::Wait => Fields {
-            op: 8,
-            chan: cases,
-            arg: 0,
-            next: 0,
-            other: 0,
-        },
-        Otherwise::Go(n) => Fields {
-            op: 8,
-            chan: cases,
-            arg: 1,
-            next: n.0,
-            other: 0,
-        },
+    let (arg, next) = match e {
+        Otherwise::Wait => (0, 0),
+        Otherwise::Go(n) => (1, n.0),
+    };
+    Fields {
+        op: 8,
+        chan: cases,
+        arg,
+        next,
+        other: 0,
     }
 }
 
+// The fields that the table writes for a statement.
+// Kept, point 4: a From<Statement> would have to stand in crate meaning, whose both kinds are, below the crates that read and write rows.
+#[tactic(auto, unfolding(meaning::specs::Bytes::fields_of, crate::specs::Fields::op_fields))]
 pub fn fields_of(s: Statement) -> Fields
     ensures { result ≡ fields_of s }
 {
     match s {
-        Statement::Do(o, n) => do_fields(o, n),
+        Statement::Do(o, n) => op_fields(SEND, o, n),
         Statement::Close(p, n) => Fields {
             op: 4,
-            chan: port_number(p),
+            chan: u8::from(p),
             arg: 0,
             next: n.0,
             other: 0,
         },
         Statement::Range(p, n, a) => Fields {
             op: 5,
-            chan: port_number(p),
+            chan: u8::from(p),
             arg: 0,
             next: n.0,
             other: a.0,
@@ -123,7 +92,7 @@ pub fn fields_of(s: Statement) -> Fields
             other: a.0,
         },
         Statement::Select(k, e) => select_fields(k, e),
-        Statement::Case(o, n) => case_fields(o, n),
+        Statement::Case(o, n) => op_fields(CASE_SEND, o, n),
         Statement::Stop => Fields {
             op: 12,
             chan: 0,
@@ -151,6 +120,7 @@ fn put_eight(out: &mut [u8], i: usize, f: Fields)
 
 // Stores row r of an image that begins with row 0 at the buffer's start: eight bytes, and no other. Where they would pass
 // the buffer's end, nothing is stored.
+#[tactic(auto, unfolding(image_rows::specs::Rows::fields_put))]
 pub fn put_fields(out: &mut [u8], r: Row, f: Fields)
     ensures { out.new ≡ fields_put out.old r f }
 {
@@ -161,6 +131,7 @@ pub fn put_fields(out: &mut [u8], r: Row, f: Fields)
 }
 
 // The same of the row of a statement.
+#[tactic(auto, unfolding(image_rows::specs::Rows::row_put))]
 pub fn put_row(out: &mut [u8], r: Row, s: Statement)
     ensures { out.new ≡ row_put out.old r s }
 {

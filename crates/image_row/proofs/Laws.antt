@@ -1,5 +1,5 @@
 -- Laws that several proofs of this crate cite. Assumes nothing.
-use mathlib.Core.Path.{◌≡◌, ap, ◌∙◌}
+use mathlib.Core.Path.{◌≡◌}
 use mathlib.Core.Bool.{◌&&◌}
 use mathlib.Core.List.{List}
 use Prim.Native.Nat.{ℕ, suc, ◌+◌, ◌-◌, ◌*◌, ◌≤◌, ◌<◌}
@@ -23,9 +23,9 @@ unfolding fields_of_row
 cut_row rs r h = rw (lt-leb _ _ h)
 
 -- One step of the case rows behind a select.
-pub follow_step : (rs : List ℕ) (rows k i : ℕ) → 0 < k
-    → cases_follow rs rows k i ≡ (ltb i rows && (is_case_row rs (row_no i) && cases_follow rs rows (k - 1) (i + 1)))
+pub follow_step : (rs : List ℕ) (rows k n i : ℕ) → n < k
+    → cases_follow rs rows (k - n) i ≡ (ltb i rows && (is_case_row rs (row_no i) && cases_follow rs rows (k - (n + 1)) (i + 1)))
 unfolding cases_follow
-follow_step rs rows k i h =
-    let e : k ≡ suc (k - 1) = omega arith in
-    ap (λ n. cases_follow rs rows n i) e ∙ rw add-one
+follow_step rs rows k n i h =
+    let e : k - n ≡ suc (k - (n + 1)) = omega arith in
+    rw (e, add-one i)

@@ -1,5 +1,5 @@
-// The five fields of a row, read where they lie in a slice that holds the row: "op, chan, arg (2), next (2), other (2)". Whoever asks
-// has seen that it does, so that no read asks for the slice's end.
+// The five fields of a row, read where they lie in a slice that holds the row: "op, chan, arg (2), next (2), other (2)". Whoever makes
+// one has seen that it does, so that no read asks for the slice's end.
 ghost use Rattle.std.specs.Prelude.{◌≡◌, ◌+◌, ◌*◌, ◌≤◌, length};
 ghost use Rattle.meaning.specs.Bytes.{row_size, fields_of_row};
 ghost use Rattle.image_row.specs.Row.{is_case_row};
@@ -8,51 +8,58 @@ use image_rows::bytes::two_of;
 use meaning::Row;
 use meaning::sizes::ROW_SIZE;
 
-pub(crate) fn op_of(body: &[u8], r: Row) -> u8
-    requires { row_size * r.0 + row_size ≤ length body.now }
-    ensures { result ≡ (fields_of_row body.now r).op }
-{
-    let at = ROW_SIZE * (r.0 as usize);
-    body[at]
+// A row that the slice from row 0 on holds.
+#[derive(Clone, Copy)]
+pub(crate) struct Held<'a> {
+    pub body: &'a [u8],
+    pub at: Row,
+    ghost whole: { row_size * at.0 + row_size ≤ length body.now },
 }
 
-pub(crate) fn chan_of(body: &[u8], r: Row) -> u8
-    requires { row_size * r.0 + row_size ≤ length body.now }
-    ensures { result ≡ (fields_of_row body.now r).chan }
-{
-    let at = ROW_SIZE * (r.0 as usize);
-    body[at + 1]
-}
+impl<'a> Held<'a> {
+    #[tactic(auto, unfolding(meaning::specs::Bytes::fields_of_row))]
+    pub(crate) fn op(self) -> u8
+        ensures { result ≡ (fields_of_row self.entry.body.now self.entry.at).op }
+    {
+        self.body[ROW_SIZE * (self.at.0 as usize)]
+    }
 
-pub(crate) fn arg_of(body: &[u8], r: Row) -> u16
-    requires { row_size * r.0 + row_size ≤ length body.now }
-    ensures { result ≡ (fields_of_row body.now r).arg }
-{
-    let at = ROW_SIZE * (r.0 as usize);
-    two_of(body[at + 2], body[at + 3])
-}
+    #[tactic(auto, unfolding(meaning::specs::Bytes::fields_of_row))]
+    pub(crate) fn chan(self) -> u8
+        ensures { result ≡ (fields_of_row self.entry.body.now self.entry.at).chan }
+    {
+        self.body[ROW_SIZE * (self.at.0 as usize) + 1]
+    }
 
-pub(crate) fn next_of(body: &[u8], r: Row) -> u16
-    requires { row_size * r.0 + row_size ≤ length body.now }
-    ensures { result ≡ (fields_of_row body.now r).next }
-{
-    let at = ROW_SIZE * (r.0 as usize);
-    two_of(body[at + 4], body[at + 5])
-}
+    #[tactic(auto, unfolding(meaning::specs::Bytes::fields_of_row))]
+    pub(crate) fn arg(self) -> u16
+        ensures { result ≡ (fields_of_row self.entry.body.now self.entry.at).arg }
+    {
+        let at = ROW_SIZE * (self.at.0 as usize);
+        two_of(self.body[at + 2], self.body[at + 3])
+    }
 
-pub(crate) fn other_of(body: &[u8], r: Row) -> u16
-    requires { row_size * r.0 + row_size ≤ length body.now }
-    ensures { result ≡ (fields_of_row body.now r).other }
-{
-    let at = ROW_SIZE * (r.0 as usize);
-    two_of(body[at + 6], body[at + 7])
-}
+    #[tactic(auto, unfolding(meaning::specs::Bytes::fields_of_row))]
+    pub(crate) fn next(self) -> u16
+        ensures { result ≡ (fields_of_row self.entry.body.now self.entry.at).next }
+    {
+        let at = ROW_SIZE * (self.at.0 as usize);
+        two_of(self.body[at + 4], self.body[at + 5])
+    }
 
-// "case rows (ops 9 to 11)"
-pub(crate) fn is_case_row(body: &[u8], r: Row) -> bool
-    requires { row_size * r.0 + row_size ≤ length body.now }
-    ensures { result ≡ is_case_row body.now r }
-{
-    let op = op_of(body, r);
-    if 9 <= op { op <= 11 } else { false }
+    #[tactic(auto, unfolding(meaning::specs::Bytes::fields_of_row))]
+    pub(crate) fn other(self) -> u16
+        ensures { result ≡ (fields_of_row self.entry.body.now self.entry.at).other }
+    {
+        let at = ROW_SIZE * (self.at.0 as usize);
+        two_of(self.body[at + 6], self.body[at + 7])
+    }
+
+    // "case rows (ops 9 to 11)"
+    #[tactic(auto, unfolding(crate::specs::Row::is_case_row))]
+    pub(crate) fn is_case(self) -> bool
+        ensures { result ≡ is_case_row self.entry.body.now self.entry.at }
+    {
+        matches!(self.op(), 9..=11)
+    }
 }

@@ -10,15 +10,16 @@ ghost use Rattle.image_row.specs.Row.{is_target, owed_after, row_passes};
 mod fields;
 mod table;
 
-use fields::{chan_of, is_case_row, op_of};
+use fields::Held;
 use meaning::Row;
 use meaning::sizes::ROW_SIZE;
-use table::row_good;
+use table::Judged;
 
 // The op of a select.
 const SELECT: u8 = 8;
 
 // Whether a target is a row and no case row. A row that the slice does not hold has op 0 and is no case row.
+#[tactic(auto, unfolding(crate::specs::Row::is_target, crate::specs::Row::is_case_row), using(crate::proofs::Laws::cut_row))]
 pub fn is_target(body: &[u8], rows: u16, r: Row) -> bool
     ensures { result ≡ is_target body.now rows r }
 {
@@ -26,7 +27,7 @@ pub fn is_target(body: &[u8], rows: u16, r: Row) -> bool
         return false;
     }
     if ROW_SIZE * (r.0 as usize) + ROW_SIZE <= body.len() {
-        !is_case_row(body, r)
+        !Held { body, at: r }.is_case()
     } else {
         true
     }
@@ -34,17 +35,19 @@ pub fn is_target(body: &[u8], rows: u16, r: Row) -> bool
 
 // How many of a select's case rows are still to come behind row i, where so many were ahead of it. Behind a row that the slice does
 // not hold there are none.
+#[tactic(auto, unfolding(crate::specs::Row::is_case_row), using(crate::proofs::Laws::cut_row, crate::specs::Laws::Table::owed_behind_lem))]
 pub fn owed_behind(body: &[u8], i: Row, owed: u8) -> u8
     ensures { result ≡ owed_after owed (statement_of (fields_of_row body.now i)) }
 {
     if body.len() < ROW_SIZE * (i.0 as usize) + ROW_SIZE {
         return 0;
     }
-    if op_of(body, i) == SELECT {
-        return chan_of(body, i);
+    let row = Held { body, at: i };
+    if row.op() == SELECT {
+        return row.chan();
     }
-    if is_case_row(body, i) {
-        if 0 < owed { owed - 1 } else { 0 }
+    if row.is_case() {
+        owed.saturating_sub(1)
     } else {
         0
     }
@@ -52,6 +55,7 @@ pub fn owed_behind(body: &[u8], i: Row, owed: u8) -> u8
 
 // Whether row i of so many passes: the slice holds every row, this is one of them, and it is good, where so many of a select's case
 // rows were still to come ahead of it.
+#[tactic(auto, unfolding(crate::specs::Row::row_passes))]
 pub fn row_passes(body: &[u8], rows: u16, channels: u8, i: Row, owed: u8) -> bool
     ensures { result ≡ row_passes body.now rows channels i owed }
 {
@@ -61,5 +65,10 @@ pub fn row_passes(body: &[u8], rows: u16, channels: u8, i: Row, owed: u8) -> boo
     if rows <= i.0 {
         return false;
     }
-    row_good(body, rows, channels, i, owed)
+    let row = Judged {
+        row: Held { body, at: i },
+        rows,
+        channels,
+    };
+    row.good(owed)
 }

@@ -34,6 +34,7 @@ pub fn two_at(s: &[u8], i: u32) -> u16
 }
 
 // The last eight bytes of an image: all of a slice that is shorter.
+#[tactic(auto, unfolding(meaning::specs::Bytes::trailer_of), using(crate::proofs::Laws::part_to_end))]
 pub fn trailer_of(image: &[u8]) -> &[u8]
     ensures { result.now ≡ trailer_of image.now }
 {
@@ -46,6 +47,7 @@ pub fn trailer_of(image: &[u8]) -> &[u8]
 }
 
 // What a trailer says.
+#[tactic(auto, unfolding(crate::specs::Rows::counts_in))]
 pub fn counts_in(trailer: &[u8]) -> Counts
     ensures { result ≡ counts_in trailer.now }
 {
@@ -58,6 +60,7 @@ pub fn counts_in(trailer: &[u8]) -> Counts
 }
 
 // An image from row 0 on: all of a slice whose trailer would reach ahead of it.
+#[tactic(auto, unfolding(meaning::specs::Bytes::body_of, meaning::specs::Bytes::distance), using(crate::proofs::Laws::part_to_end))]
 pub fn body_of(image: &[u8]) -> &[u8]
     ensures { result.now ≡ body_of image.now }
 {

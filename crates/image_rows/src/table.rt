@@ -1,22 +1,11 @@
 // A row of a step image: eight bytes, five fields, one statement. The table of document 01, 'Step image', read.
 ghost use Rattle.std.specs.Prelude.{◌≡◌, ◌+◌, ◌≤◌, length};
 ghost use Rattle.meaning.specs.Image.{row_no};
-ghost use Rattle.meaning.specs.Bytes.{port_of, otherwise_of, statement_of, fields_at, fields_of_row, rows_in, capacity_in, first_row_in};
+ghost use Rattle.meaning.specs.Bytes.{otherwise_of, statement_of, fields_at, fields_of_row, rows_in, capacity_in, first_row_in};
 
 use crate::bytes::{byte_at, two_at, two_of};
-use meaning::sizes::{NIL, ROW_SIZE};
+use meaning::sizes::ROW_SIZE;
 use meaning::{Chan, Fields, Op, Otherwise, Port, Row, Statement, Task};
-
-// The port that a channel byte names; 255 is nil.
-pub fn port_of(n: u8) -> Port
-    ensures { result ≡ port_of n }
-{
-    if n == NIL {
-        Port::Nil
-    } else {
-        Port::On(Chan(n))
-    }
-}
 
 // The fields of the eight bytes from i on.
 fn fields_at(body: &[u8], i: usize) -> Fields
@@ -29,16 +18,17 @@ fn fields_at(body: &[u8], i: usize) -> Fields
     let next = two_of(body[i + 4], body[i + 5]);
     let other = two_of(body[i + 6], body[i + 7]);
     Fields {
-        op: op,
-        chan: chan,
-        arg: arg,
-        next: next,
-        other: other,
+        op,
+        chan,
+        arg,
+        next,
+        other,
     }
 }
 
 // The fields of the row at number n of an image that begins with row 0; all 0 where the slice ends ahead of the row's end. The number
 // of a case row is counted on from its select's and may be more than a `Row` can say.
+#[tactic(auto, unfolding(meaning::specs::Bytes::fields_of_row))]
 pub fn fields_no(body: &[u8], n: u32) -> Fields
     ensures { result ≡ fields_of_row body.now (row_no n) }
 {
@@ -63,10 +53,12 @@ pub fn fields_of_row(body: &[u8], r: Row) -> Fields
 }
 
 // The statement that five fields read as.
+// Kept, point 4: a From<Fields> would have to stand in crate meaning, whose both kinds are, below the crates that read and write rows.
+#[tactic(auto, unfolding(meaning::specs::Bytes::statement_of), using(crate::proofs::Laws::past_the_table))]
 pub fn statement_of(f: Fields) -> Statement
     ensures { result ≡ statement_of f }
 {
-    let p = port_of(f.chan);
+    let p = Port::from(f.chan);
     let arg = f.arg;
     let next = Row(f.next);
     let other = Row(f.other);
@@ -98,6 +90,7 @@ fn otherwise_of(arg: u16, next: Row) -> Otherwise
 }
 
 // The statement at a row.
+#[tactic(auto, unfolding(meaning::specs::Bytes::rows_in))]
 pub fn statement_at(body: &[u8], r: Row) -> Statement
     ensures { result ≡ rows_in body.now r }
 {
@@ -105,6 +98,7 @@ pub fn statement_at(body: &[u8], r: Row) -> Statement
 }
 
 // The capacity of channel c, behind so many rows.
+#[tactic(auto, unfolding(meaning::specs::Bytes::capacity_in))]
 pub fn capacity_in(body: &[u8], rows: u16, c: Chan) -> u8
     ensures { result ≡ capacity_in body.now rows c }
 {
@@ -112,6 +106,7 @@ pub fn capacity_in(body: &[u8], rows: u16, c: Chan) -> u8
 }
 
 // The first row of task t, behind so many rows and channels.
+#[tactic(auto, unfolding(meaning::specs::Bytes::first_row_in))]
 pub fn first_row_in(body: &[u8], rows: u16, channels: u8, t: Task) -> Row
     ensures { result ≡ first_row_in body.now rows channels t }
 {

@@ -5,8 +5,7 @@ pub use Rattle.meaning.specs.declared.Status.{Status}
 pub use Rattle.meaning.specs.declared.Status.TheVariants.{Able, Waiting, Ended}
 pub use Rattle.meaning.specs.declared.EventNumbers.{EventNumbers}
 pub use Rattle.image_rows.specs.declared.Counts.{Counts}
-pub use Rattle.image_check.specs.declared.Checked.{Checked}
-pub use Rattle.image_check.specs.declared.Checked.TheVariants.{Good}
+pub use Rattle.image_check.specs.declared.ImageFault.{ImageFault}
 pub use Rattle.machine_records.specs.declared.TaskState.{TaskState}
 pub use Rattle.machine_records.specs.declared.Change.TheVariants.{Keep}
 pub use Rattle.machine_records.specs.declared.Moved.{Moved}

@@ -1,6 +1,6 @@
 -- What `start` and `turn` answer, cell by cell, with document 01's refusals in front.
-use Rattle.std.specs.Prelude.{◌≡◌, true, false, cond, List, ℕ, ltb, replicate}
-use Rattle.machine.specs.Kinds.{Task, Row, Able, Counts, Checked, Good, TaskState, Keep, State, Turned, Started}
+use Rattle.std.specs.Prelude.{◌≡◌, true, false, cond, List, ℕ, ltb, replicate, Result, Ok, Err, ⊤}
+use Rattle.machine.specs.Kinds.{Task, Row, Able, Counts, ImageFault, TaskState, Keep, State, Turned, Started}
 use Rattle.meaning.specs.declared.Event.TheVariants as event
 use Rattle.meaning.specs.Numbers.{task_limit, channel_limit, capacity_limit, depth_limit, no_fault, unfit}
 use Rattle.meaning.specs.Events.{numbers}
@@ -8,8 +8,7 @@ use Rattle.meaning.specs.Machine as m
 use Rattle.meaning.specs.Image.{row_no, image_look, task_no}
 use Rattle.meaning.specs.Bytes.{body_of, first_row_in, tabulate, rows_of}
 use Rattle.image_rows.specs.Rows.{counts_of}
-use Rattle.image_check.specs.declared.Checked.TheVariants.{Refused}
-use Rattle.image_check.specs.Check.{checked}
+use Rattle.image_check.specs.Check.{checked, fault_number}
 use Rattle.machine_records.specs.Records.{Records, blank_chan, no_tasks}
 use Rattle.machine_records.specs.Values.{Values}
 use Rattle.machine_records.specs.Plans.{Done}
@@ -51,9 +50,9 @@ fresh_state rs k = state_of (fresh_records (fresh_tasks rs k k.tasks) k.tasks k.
 abbrev pub no_state : State
 no_state = record { words = replicate 33 0; cells = replicate 181 0 }
 
-abbrev pub started_as : List ℕ → Counts → Checked → Started
-started_as rs k Good = record { answer = Good; state = fresh_state rs k }
-started_as rs k (Refused n i) = record { answer = Refused n i; state = no_state }
+abbrev pub started_as : List ℕ → Counts → Result ⊤ ImageFault → Started
+started_as rs k (Ok done) = record { answer = Ok tt; state = fresh_state rs k }
+started_as rs k (Err fault) = record { answer = Err fault; state = no_state }
 
 unfoldable pub started : List ℕ → Started
 started bs = started_as (body_of bs) (counts_of bs) (checked bs)
@@ -75,9 +74,9 @@ turned_as d = record { event = d.event; state = state_of d.after; change = d.cha
 abbrev pub stepped_turn : List ℕ → ℕ → State → Values → Task → ℕ → Turned
 stepped_turn rs rows s b t choice = turned_as (stepped rs rows (records_of s) b t choice)
 
-abbrev pub turned_after : List ℕ → Counts → State → Values → Task → ℕ → Checked → Turned
-turned_after rs k s b t choice Good = cond (fitting_in rs k s.words s.cells) (stepped_turn rs k.rows s b t choice) (refused_turn s unfit)
-turned_after rs k s b t choice (Refused n i) = refused_turn s n
+abbrev pub turned_after : List ℕ → Counts → State → Values → Task → ℕ → Result ⊤ ImageFault → Turned
+turned_after rs k s b t choice (Ok done) = cond (fitting_in rs k s.words s.cells) (stepped_turn rs k.rows s b t choice) (refused_turn s unfit)
+turned_after rs k s b t choice (Err fault) = refused_turn s (fault_number fault)
 
 unfoldable pub turned : List ℕ → State → Values → Task → ℕ → Turned
 turned bs s b t choice = turned_after (body_of bs) (counts_of bs) s b t choice (checked bs)

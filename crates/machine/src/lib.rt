@@ -2,7 +2,7 @@
 // value. Every image, state, task number and choice is answered.
 #![tactic(auto)]
 
-ghost use Rattle.std.specs.Prelude.{◌≡◌, true, ◌≤◌};
+ghost use Rattle.std.specs.Prelude.{◌≡◌, true, ◌≤◌, Ok};
 ghost use Rattle.meaning.specs.Bytes.{body_of, start_of};
 ghost use Rattle.meaning.specs.Numbers.{task_limit};
 ghost use Rattle.image_rows.specs.Rows.{counts_of};
@@ -11,10 +11,9 @@ ghost use Rattle.machine_records.specs.Values.{changed};
 ghost use Rattle.machine_records.specs.View.{view};
 ghost use Rattle.machine_store.specs.Store.{records_of};
 ghost use Rattle.machine_fit.specs.Fitted.{fitting_in};
-ghost use Rattle.machine.specs.Kinds.{Good};
 ghost use Rattle.machine.specs.Public.{fresh_state, started_as, started, fresh_values, refused_turn, stepped_turn, turned_after, turned, Means};
 
-use image_check::{Checked, check};
+use image_check::{ImageFault, check};
 use image_rows::Counts;
 use image_rows::bytes::{body_of, counts_in, trailer_of};
 use image_rows::table::first_row_in;
@@ -33,7 +32,7 @@ pub const UNFIT: u8 = 17;
 // A start's answer: the check's, and the fresh state; a state with no task where the image is refused.
 #[derive(Clone, Copy)]
 pub struct Started {
-    pub answer: Checked,
+    pub answer: Result<(), ImageFault>,
     pub state: State,
 }
 
@@ -68,29 +67,27 @@ fn fresh(body: &[u8], k: Counts) -> State
     }
 }
 
-fn start_as(body: &[u8], k: Counts, answer: Checked) -> Started
-    requires { answer ≡ Good → k.tasks ≤ task_limit }
+fn start_as(body: &[u8], k: Counts, answer: Result<(), ImageFault>) -> Started
+    requires { answer ≡ Ok tt → k.tasks ≤ task_limit }
     ensures { result ≡ started_as body.now k answer }
 {
     match answer {
-        Checked::Good => {
+        Ok(()) => {
             let state = fresh(body, k);
-            let good = Checked::Good;
             Started {
-                answer: good,
+                answer: Ok(()),
                 state: state,
             }
         }
-        Checked::Refused(n, i) => {
+        Err(fault) => {
             let words = [0u16; STATE_WORDS];
             let cells = [0u8; STATE_CELLS];
             let state = State {
                 words: words,
                 cells: cells,
             };
-            let refused = Checked::Refused(n, i);
             Started {
-                answer: refused,
+                answer: Err(fault),
                 state: state,
             }
         }
@@ -99,7 +96,7 @@ fn start_as(body: &[u8], k: Counts, answer: Checked) -> Started
 
 // A fresh start: the image check's refusal, or the machine at the beginning.
 pub fn start(image: &[u8]) -> Started
-    ensures { (result ≡ started image.now) × (checked image.now ≡ Good → view image.now (records_of result.state) fresh_values ≡ start_of image.now) }
+    ensures { (result ≡ started image.now) × (checked image.now ≡ Ok tt → view image.now (records_of result.state) fresh_values ≡ start_of image.now) }
 {
     let answer = check(image);
     start_as(body_of(image), counts_in(trailer_of(image)), answer)
@@ -168,15 +165,15 @@ fn turn_after(
     values: [[u16; CELLS as usize]; CHANS as usize],
     task: Task,
     choice: u8,
-    answer: Checked,
+    answer: Result<(), ImageFault>,
 ) -> Turned
     ensures { result ≡ turned_after body.now k s values task choice answer }
 {
     match answer {
-        Checked::Refused(n, _) => {
-            return refuse(s, n);
+        Err(fault) => {
+            return refuse(s, fault.number());
         }
-        Checked::Good => {}
+        Ok(()) => {}
     }
     let words = s.words;
     let cells = s.cells;
@@ -195,7 +192,7 @@ pub fn turn(
     task: Task,
     choice: u8,
 ) -> Turned
-    ensures { (result ≡ turned image.now s values task choice) × (checked image.now ≡ Good → fitting_in (body_of image.now) (counts_of image.now) s.words s.cells ≡ true → Means image.now s values task choice result) }
+    ensures { (result ≡ turned image.now s values task choice) × (checked image.now ≡ Ok tt → fitting_in (body_of image.now) (counts_of image.now) s.words s.cells ≡ true → Means image.now s values task choice result) }
 {
     let answer = check(image);
     turn_after(

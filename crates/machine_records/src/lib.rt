@@ -68,9 +68,9 @@ pub enum Fault {
 }
 
 impl From<Fault> for u8 {
-    fn from(fault: Fault) -> u8
-        ensures { result ≡ fault_number fault }
-    {
+    ghost from_gives = { λ fault n. n ≡ fault_number fault };
+
+    fn from(fault: Fault) -> u8 {
         match fault {
             Fault::SendOnClosed => 1,
             Fault::CloseOfNil => 2,
@@ -120,9 +120,9 @@ pub enum Refusal {
 }
 
 impl From<Refusal> for u8 {
-    fn from(refusal: Refusal) -> u8
-        ensures { result ≡ refusal_number refusal }
-    {
+    ghost from_gives = { λ refusal n. n ≡ refusal_number refusal };
+
+    fn from(refusal: Refusal) -> u8 {
         match refusal {
             Refusal::Halted => 13,
             Refusal::NoSuchTask => 14,

@@ -7,7 +7,7 @@ ghost use Rattle.machine_turns.specs.Schedule.{outcome, scheduled, values_after,
 ghost use Rattle.machine_turns.specs.Loop.{Sixteen, state_in, Ready, Ran};
 
 use events::put_record;
-use image_check::{Checked, check};
+use image_check::check;
 use image_rows::bytes::{body_of, counts_in, trailer_of};
 use machine::UNFIT;
 use machine_buffer::store_in;
@@ -64,6 +64,7 @@ fn run_in(
 }
 
 // The answer of a call, decided ahead of the first turn: the image check's own number, 17, 30, 31, or the bytes that its records take.
+#[tactic(auto, unfolding(machine_turns::specs::Schedule::outcome, image_rows::specs::Rows::counts_of))]
 fn decide(
     image: &[u8],
     words: &[u16; STATE_WORDS],
@@ -74,10 +75,10 @@ fn decide(
     ensures { result ≡ outcome image.now (state_in words.now cells.now) pairs room }
 {
     match check(image) {
-        Checked::Refused(n, i) => {
-            return Outcome::Refused(n, i as usize);
+        Err(fault) => {
+            return Outcome::Refused(fault.number(), usize::from(fault.place()));
         }
-        Checked::Good => {}
+        Ok(()) => {}
     }
     if fits(body_of(image), counts_in(trailer_of(image)), words, cells) {
         return outcome_of(pairs, room);

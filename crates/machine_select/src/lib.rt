@@ -11,7 +11,7 @@ ghost use Rattle.machine_records.specs.declared.Side.TheVariants.{Receiving, Sen
 ghost use Rattle.machine_records.specs.Waiters.{case_offer, first_waiter};
 ghost use Rattle.machine_records.specs.Rules.{has_room, can_send, can_receive, send_ready, receive_ready, op_ready, row_ready, ready_rows, chosen_case};
 
-use image_rows::table::{capacity_in, fields_no, port_of};
+use image_rows::table::{capacity_in, fields_no};
 use machine_records::{Offer, Side};
 use machine_store::State;
 use machine_waiters::first_waiter;
@@ -22,7 +22,7 @@ fn case_offer(body: &[u8], n: u32) -> Option<Offer>
     ensures { result ≡ case_offer (rows_in body.now (row_no n)) }
 {
     let f = fields_no(body, n);
-    let p = port_of(f.chan);
+    let p = Port::from(f.chan);
     let next = Row(f.next);
     let op = match f.op {
         9 => Op::Send(p, f.arg),

@@ -1,5 +1,5 @@
 -- The loop of turns, lap by lap: what it has made so far and what is still to come are all that it is to make.
-use Rattle.std.specs.Prelude.{◌≡◌, refl, get_or, drop}
+use Rattle.std.specs.Prelude.{◌≡◌, refl, get_or, drop, Ok}
 use Rattle.std.proofs.Math.Path.{sym, ap}
 use Rattle.std.proofs.Common.{ap₂, subst, ◌∙◌, add-one, le-leb, drop_of_length-le, drop-cons}
 use mathlib.Core.List.{List, [], ◌∷◌, ◌++◌}
@@ -7,7 +7,7 @@ use Prim.Native.Nat.{ℕ, suc, ◌+◌, ◌*◌, ◌≤◌, ◌<◌}
 use native.Mathlib.Omega.{arith}
 use Rattle.std.proofs.Math.ListN.{length}
 use Rattle.std.proofs.Math.Seq.{sets, length-sets}
-use Rattle.machine_turns.specs.Kinds.{Task, Good, Moved, Turned}
+use Rattle.machine_turns.specs.Kinds.{Task, Moved, Turned}
 use Rattle.meaning.specs.Events.{numbers}
 use Rattle.meaning.specs.Image.{task_no}
 use Rattle.meaning.specs.Bytes.{body_of}
@@ -53,7 +53,7 @@ module _ (bs w₀ c₀ : List ℕ) (b₀ : Values) (pairs out₀ : List ℕ) whe
       } in
       record { state = refl; values = refl; records = refl; kept = record { arrays = arrays; fit = q.fit }; room = refl }
 
-  module _ (good : checked bs ≡ Good) (w c : List ℕ) (b : Values) (out : List ℕ) (i : ℕ) (l : Ahead bs w₀ c₀ b₀ pairs out₀ w c b out i) where
+  module _ (good : checked bs ≡ Ok tt) (w c : List ℕ) (b : Values) (out : List ℕ) (i : ℕ) (l : Ahead bs w₀ c₀ b₀ pairs out₀ w c b out i) where
     abbrev task : Task
     task = task_no (get_or pairs i 0)
 

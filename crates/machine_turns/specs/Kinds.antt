@@ -2,8 +2,7 @@
 pub use Rattle.meaning.specs.declared.Task.{Task}
 pub use Rattle.meaning.specs.declared.Event.{Event}
 pub use Rattle.image_rows.specs.declared.Counts.{Counts}
-pub use Rattle.image_check.specs.declared.Checked.{Checked}
-pub use Rattle.image_check.specs.declared.Checked.TheVariants.{Good}
+pub use Rattle.image_check.specs.declared.ImageFault.{ImageFault}
 pub use Rattle.machine_records.specs.declared.Moved.{Moved}
 pub use Rattle.machine_store.specs.declared.State.{State}
 pub use Rattle.machine.specs.declared.Turned.{Turned}

@@ -1,7 +1,7 @@
 -- What the loop of turns counts on, asked once ahead of it, and what it leaves where state, values and records lie.
-use Rattle.std.specs.Prelude.{◌≡◌, true, List, [], ℕ, ◌*◌, ◌%◌, ◌≤◌, ◌<◌, length, get_or}
+use Rattle.std.specs.Prelude.{◌≡◌, true, List, [], ℕ, ◌*◌, ◌%◌, ◌≤◌, ◌<◌, length, get_or, Ok}
 use Rattle.std.proofs.lemmas.List.Edits.{sets}
-use Rattle.machine_turns.specs.Kinds.{Good, State}
+use Rattle.machine_turns.specs.Kinds.{State}
 use Rattle.meaning.specs.Numbers.{channel_limit, capacity_limit}
 use Rattle.meaning.specs.Bytes.{body_of}
 use Rattle.image_rows.specs.Rows.{counts_of}
@@ -21,7 +21,7 @@ state_in w c = record { words = w; cells = c }
 
 module _ (bs w c : List ℕ) (b : Values) (pairs out : List ℕ) where
   pub record Ready : Type 0 where
-    pub good : checked bs ≡ Good
+    pub good : checked bs ≡ Ok tt
     pub fit : fitting_in (body_of bs) (counts_of bs) w c ≡ true
     pub words : length w ≡ 33
     pub cells : length c ≡ 181

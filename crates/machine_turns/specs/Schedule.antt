@@ -1,16 +1,15 @@
 -- Document 02, E1: a whole schedule in one call. "The answer and the end state equal those of single turns in order, refused turns
 -- included; record bytes past the last are untouched."
-use Rattle.std.specs.Prelude.{cond, List, [], ◌∷◌, ◌++◌, ℕ, ◌*◌, ◌%◌, eqb, leb, length}
+use Rattle.std.specs.Prelude.{cond, List, [], ◌∷◌, ◌++◌, ℕ, ◌*◌, ◌%◌, eqb, leb, length, Result, Ok, Err, ⊤}
 use Rattle.std.proofs.lemmas.List.Edits.{sets}
-use Rattle.machine_turns.specs.Kinds.{Task, Counts, Checked, Good, State, Outcome, Scheduled}
-use Rattle.image_check.specs.declared.Checked.TheVariants as check
+use Rattle.machine_turns.specs.Kinds.{Task, Counts, ImageFault, State, Outcome, Scheduled}
 use Rattle.meaning.specs.Numbers.{unfit}
 use Rattle.meaning.specs.Events.{numbers}
 use Rattle.meaning.specs.Image.{task_no}
 use Rattle.meaning.specs.Bytes.{body_of}
 use Rattle.events.specs.Record.{event_record}
 use Rattle.image_rows.specs.Rows.{counts_of}
-use Rattle.image_check.specs.Check.{checked}
+use Rattle.image_check.specs.Check.{checked, fault_number, fault_place}
 use Rattle.machine_records.specs.Values.{Values, changed}
 use Rattle.machine_fit.specs.Fitted.{fitting_in}
 use Rattle.machine.specs.Public.{turned}
@@ -61,9 +60,9 @@ outcome_of pairs room =
     (cond (leb (needed pairs) room) (Outcome.Done (needed pairs)) (Outcome.Refused records_short (needed pairs)))
     (Outcome.Refused odd_pairs 0)
 
-abbrev pub outcome_after : List ℕ → Counts → State → ℕ → ℕ → Checked → Outcome
-outcome_after rs k s pairs room Good = cond (fitting_in rs k s.words s.cells) (outcome_of pairs room) (Outcome.Refused unfit 0)
-outcome_after rs k s pairs room (check.Refused n i) = Outcome.Refused n i
+abbrev pub outcome_after : List ℕ → Counts → State → ℕ → ℕ → Result ⊤ ImageFault → Outcome
+outcome_after rs k s pairs room (Ok done) = cond (fitting_in rs k s.words s.cells) (outcome_of pairs room) (Outcome.Refused unfit 0)
+outcome_after rs k s pairs room (Err fault) = Outcome.Refused (fault_number fault) (fault_place fault)
 
 unfoldable pub outcome : List ℕ → State → ℕ → ℕ → Outcome
 outcome bs s pairs room = outcome_after (body_of bs) (counts_of bs) s pairs room (checked bs)

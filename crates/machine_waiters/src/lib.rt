@@ -11,11 +11,11 @@ ghost use Rattle.machine_records.specs.Waiters.{matched_at, first_waiter};
 ghost use Rattle.machine_store.specs.Store.{records_of};
 ghost use Rattle.machine_waiters.specs.Served.{head_of, op_serves, case_serves, first_serving, served_at, row_offer, miss_of};
 
-use image_rows::table::{fields_no, port_of};
+use image_rows::table::fields_no;
 use machine_records::{Offer, Side, Waiter};
 use machine_store::State;
 use meaning::sizes::{NIL, ROW_SIZE, TASKS};
-use meaning::{Chan, Op, Row};
+use meaning::{Chan, Op, Port, Row};
 
 // The op of a select.
 const SELECT: u8 = 8;
@@ -112,7 +112,7 @@ fn offer_at(body: &[u8], n: u32) -> Option<Offer>
     ensures { result ≡ row_offer (rows_in body.now (row_no n)) }
 {
     let f = fields_no(body, n);
-    let p = port_of(f.chan);
+    let p = Port::from(f.chan);
     let next = Row(f.next);
     let (op, miss) = match f.op {
         1 | 9 => (Op::Send(p, f.arg), next),

@@ -4,6 +4,7 @@
 #![tactic(auto)]
 
 ghost use Rattle.std.specs.Prelude.{◌≡◌};
+ghost use Rattle.meaning.specs.Bytes.{port_of};
 ghost use Rattle.meaning.specs.Events.{port_number};
 ghost use Rattle.meaning.specs.Statuses.{status_number, status_of};
 
@@ -77,9 +78,9 @@ pub enum Status {
 }
 
 impl From<Status> for u8 {
-    fn from(status: Status) -> u8
-        ensures { result ≡ status_number status }
-    {
+    ghost from_gives = { λ status n. n ≡ status_number status };
+
+    fn from(status: Status) -> u8 {
         match status {
             Status::Able => 0,
             Status::Waiting => 1,
@@ -90,9 +91,9 @@ impl From<Status> for u8 {
 
 // A number over 2 reads as 2 does.
 impl From<u8> for Status {
-    fn from(number: u8) -> Status
-        ensures { result ≡ status_of number }
-    {
+    ghost from_gives = { λ n status. status ≡ status_of n };
+
+    fn from(number: u8) -> Status {
         match number {
             0 => Status::Able,
             1 => Status::Waiting,
@@ -128,11 +129,26 @@ pub struct EventNumbers {
 }
 
 // A channel's number, 255 for nil: in a row and in an event alike.
-pub fn port_number(p: Port) -> u8
-    ensures { result ≡ port_number p }
-{
-    match p {
-        Port::Nil => NIL,
-        Port::On(c) => c.0,
+impl From<Port> for u8 {
+    ghost from_gives = { λ port n. n ≡ port_number port };
+
+    fn from(port: Port) -> u8 {
+        match port {
+            Port::Nil => NIL,
+            Port::On(c) => c.0,
+        }
+    }
+}
+
+// The port that a channel byte names; 255 is nil.
+impl From<u8> for Port {
+    ghost from_gives = { λ n port. port ≡ port_of n };
+
+    fn from(n: u8) -> Port {
+        if n == NIL {
+            Port::Nil
+        } else {
+            Port::On(Chan(n))
+        }
     }
 }

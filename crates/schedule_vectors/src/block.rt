@@ -6,7 +6,6 @@ use crate::lines::{
     Line, ROOM, bytes_due, bytes_of, first, held, line_due, next_told, same, told, two_numbers,
 };
 use crate::record::{RECORD_SIZE, state_of, values_of};
-use image_check::Checked;
 use machine::{fresh_values, start};
 use machine_schedule::schedule;
 use machine_store::{CHAN_COUNT, State, TASK_COUNT};
@@ -189,11 +188,7 @@ fn has_machine(image: &[u8], given: bool) -> bool {
         return true;
     }
     let started = start(image);
-    let answer = started.answer;
-    match answer {
-        Checked::Good => true,
-        Checked::Refused(_, _) => false,
-    }
+    started.answer.is_ok()
 }
 
 // The state that the call is made with.

@@ -2,12 +2,11 @@
 // asked, once as it is and three times with a fault in it; then a channel is appended to and taken from, at its limits too.
 #![tactic(auto)]
 
-use image_check::Checked;
+use image_check::ImageFault;
 use image_put::fields_of;
-use meaning::{Chan, Row, Task};
+use meaning::{Chan, Row, Statement, Task};
 use std::io;
 use thin_channel::{Channel, Taken};
-use thin_held::{CapacityAnswer, FirstRowAnswer, RowAnswer};
 
 // The image of `chan 1  task send 0 7 send 0 9 close 0 end  task range 0 end end`, behind three bytes that aren't read. Line by
 // line: those three; rows 0 to 5, which are send 0 7, send 0 9, close 0, stop, range 0, stop; the capacity of channel 0; the
@@ -27,38 +26,38 @@ fn listing() -> [u8; 64] {
 
 // THE OPENED IMAGE
 
-fn say_check(rt: &impl Print, a: Checked) -> io::Result<()> {
+fn say_check(rt: &impl Print, a: Result<(), ImageFault>) -> io::Result<()> {
     match a {
-        Checked::Good => println!(rt; "good"),
-        Checked::Refused(number, place) => println!(rt; "refused {number} {place}"),
+        Ok(()) => println!(rt; "good"),
+        Err(fault) => println!(rt; "refused {} {}", fault.number(), fault.place()),
     }
 }
 
 // The row's number, and its five fields as document 01's table writes them.
-fn say_row(rt: &impl Print, n: u16, a: RowAnswer) -> io::Result<()> {
+fn say_row(rt: &impl Print, n: u16, a: Option<Statement>) -> io::Result<()> {
     match a {
-        RowAnswer::Found(s) => {
+        Some(s) => {
             let f = fields_of(s);
             println!(rt;
                 "row {n} {} {} {} {} {}",
                 f.op, f.chan, f.arg, f.next, f.other
             )
         }
-        RowAnswer::No => println!(rt; "row {n} no"),
+        None => println!(rt; "row {n} no"),
     }
 }
 
-fn say_capacity(rt: &impl Print, c: u8, a: CapacityAnswer) -> io::Result<()> {
+fn say_capacity(rt: &impl Print, c: u8, a: Option<u8>) -> io::Result<()> {
     match a {
-        CapacityAnswer::Found(n) => println!(rt; "capacity {c} {n}"),
-        CapacityAnswer::No => println!(rt; "capacity {c} no"),
+        Some(n) => println!(rt; "capacity {c} {n}"),
+        None => println!(rt; "capacity {c} no"),
     }
 }
 
-fn say_first_row(rt: &impl Print, t: u8, a: FirstRowAnswer) -> io::Result<()> {
+fn say_first_row(rt: &impl Print, t: u8, a: Option<Row>) -> io::Result<()> {
     match a {
-        FirstRowAnswer::Found(r) => println!(rt; "first {t} {}", r.0),
-        FirstRowAnswer::No => println!(rt; "first {t} no"),
+        Some(r) => println!(rt; "first {t} {}", r.0),
+        None => println!(rt; "first {t} no"),
     }
 }
 

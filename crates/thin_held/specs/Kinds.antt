@@ -2,10 +2,7 @@
 pub use Rattle.meaning.specs.declared.Task.{Task}
 pub use Rattle.meaning.specs.declared.Chan.{Chan}
 pub use Rattle.meaning.specs.declared.Row.{Row}
+pub use Rattle.meaning.specs.declared.Statement.{Statement}
 pub use Rattle.image_rows.specs.declared.Counts.{Counts}
-pub use Rattle.image_check.specs.declared.Checked.{Checked}
-pub use Rattle.image_check.specs.declared.Checked.TheVariants.{Good, Refused}
+pub use Rattle.image_check.specs.declared.ImageFault.{ImageFault}
 pub use Rattle.thin_held.specs.declared.Held.{Held}
-pub use Rattle.thin_held.specs.declared.RowAnswer.{RowAnswer}
-pub use Rattle.thin_held.specs.declared.CapacityAnswer.{CapacityAnswer}
-pub use Rattle.thin_held.specs.declared.FirstRowAnswer.{FirstRowAnswer}

@@ -5,7 +5,7 @@
 ghost use Rattle.std.specs.Prelude.{◌≡◌};
 ghost use Rattle.thin_held.specs.Asked.{counts_held, held_of, row_asked, capacity_asked, first_row_asked};
 
-use image_check::{Checked, check};
+use image_check::{ImageFault, check};
 use image_rows::Counts;
 use image_rows::bytes::{body_of, counts_in, trailer_of};
 use image_rows::table::{capacity_in, first_row_in, statement_at};
@@ -14,35 +14,17 @@ use meaning::{Chan, Row, Statement, Task};
 // What the check answered, and what the trailer counts: nothing, where the check refused.
 #[derive(Clone, Copy)]
 pub struct Held {
-    pub answer: Checked,
+    pub answer: Result<(), ImageFault>,
     pub counts: Counts,
 }
 
-// The row, capacity or first row asked for, or no such row, channel or task.
-#[derive(Clone, Copy)]
-pub enum RowAnswer {
-    Found(Statement),
-    No,
-}
-
-#[derive(Clone, Copy)]
-pub enum CapacityAnswer {
-    Found(u8),
-    No,
-}
-
-#[derive(Clone, Copy)]
-pub enum FirstRowAnswer {
-    Found(Row),
-    No,
-}
-
-fn counts_held(answer: Checked, k: Counts) -> Counts
+#[tactic(auto, unfolding(crate::specs::Asked::counts_held))]
+fn counts_held(answer: Result<(), ImageFault>, k: Counts) -> Counts
     ensures { result ≡ counts_held answer k }
 {
     match answer {
-        Checked::Good => k,
-        Checked::Refused(_, _) => Counts {
+        Ok(()) => k,
+        Err(_) => Counts {
             rows: 0,
             channels: 0,
             tasks: 0,
@@ -51,46 +33,48 @@ fn counts_held(answer: Checked, k: Counts) -> Counts
     }
 }
 
+// The whole image check, and what the trailer counts where it passes.
+#[tactic(auto, unfolding(crate::specs::Asked::held_of, image_rows::specs::Rows::counts_of))]
 pub fn hold(image: &[u8]) -> Held
     ensures { result ≡ held_of image.now }
 {
     let answer = check(image);
-    let counts = counts_held(answer, counts_in(trailer_of(image)));
     Held {
-        answer: answer,
-        counts: counts,
+        answer,
+        counts: counts_held(answer, counts_in(trailer_of(image))),
     }
 }
 
-pub fn row_asked(image: &[u8], h: Held, n: Row) -> RowAnswer
+// The row, the capacity or the first row asked for, where there is such a row, channel or task.
+#[tactic(auto, unfolding(crate::specs::Asked::row_asked, meaning::specs::Bytes::rows_of))]
+pub fn row_asked(image: &[u8], h: Held, n: Row) -> Option<Statement>
     ensures { result ≡ row_asked image.now h n }
 {
     let k = h.counts;
     if n.0 < k.rows {
-        let found = statement_at(body_of(image), n);
-        return RowAnswer::Found(found);
+        return Some(statement_at(body_of(image), n));
     }
-    RowAnswer::No
+    None
 }
 
-pub fn capacity_asked(image: &[u8], h: Held, c: Chan) -> CapacityAnswer
+#[tactic(auto, unfolding(crate::specs::Asked::capacity_asked))]
+pub fn capacity_asked(image: &[u8], h: Held, c: Chan) -> Option<u8>
     ensures { result ≡ capacity_asked image.now h c }
 {
     let k = h.counts;
     if c.0 < k.channels {
-        let found = capacity_in(body_of(image), k.rows, c);
-        return CapacityAnswer::Found(found);
+        return Some(capacity_in(body_of(image), k.rows, c));
     }
-    CapacityAnswer::No
+    None
 }
 
-pub fn first_row_asked(image: &[u8], h: Held, t: Task) -> FirstRowAnswer
+#[tactic(auto, unfolding(crate::specs::Asked::first_row_asked))]
+pub fn first_row_asked(image: &[u8], h: Held, t: Task) -> Option<Row>
     ensures { result ≡ first_row_asked image.now h t }
 {
     let k = h.counts;
     if t.0 < k.tasks {
-        let found = first_row_in(body_of(image), k.rows, k.channels, t);
-        return FirstRowAnswer::Found(found);
+        return Some(first_row_in(body_of(image), k.rows, k.channels, t));
     }
-    FirstRowAnswer::No
+    None
 }

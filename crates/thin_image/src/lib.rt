@@ -10,12 +10,9 @@ ghost use Rattle.std.specs.Prelude.{◌≡◌};
 ghost use Rattle.thin_held.specs.Asked.{row_asked, capacity_asked, first_row_asked};
 ghost use Rattle.thin_image.specs.Opened.{opened_of, answers_of};
 
-use image_check::Checked;
-use meaning::{Chan, Row, Task};
-use thin_held::{
-    CapacityAnswer, FirstRowAnswer, Held, RowAnswer, capacity_asked, first_row_asked, hold,
-    row_asked,
-};
+use image_check::ImageFault;
+use meaning::{Chan, Row, Statement, Task};
+use thin_held::{Held, capacity_asked, first_row_asked, hold, row_asked};
 
 #[derive(Clone, Copy)]
 pub struct Opened<'a> {
@@ -26,10 +23,10 @@ pub struct Opened<'a> {
 // The answers to a question of each kind.
 #[derive(Clone, Copy)]
 pub struct Answers {
-    pub check: Checked,
-    pub row: RowAnswer,
-    pub capacity: CapacityAnswer,
-    pub start: FirstRowAnswer,
+    pub check: Result<(), ImageFault>,
+    pub row: Option<Statement>,
+    pub capacity: Option<u8>,
+    pub start: Option<Row>,
 }
 
 pub fn open<'a>(image: &'a [u8]) -> Opened<'a>
@@ -42,7 +39,7 @@ pub fn open<'a>(image: &'a [u8]) -> Opened<'a>
 }
 
 // What the check answered at the opening: good, or the refusal's number and place.
-pub fn answer<'a>(o: Opened<'a>) -> Checked
+pub fn answer<'a>(o: Opened<'a>) -> Result<(), ImageFault>
     ensures { result ≡ o.entry.held.answer }
 {
     o.held.answer
@@ -50,19 +47,19 @@ pub fn answer<'a>(o: Opened<'a>) -> Checked
 
 // Each takes the struct apart and asks a function of thin_held.
 
-pub fn row<'a>(o: Opened<'a>, n: Row) -> RowAnswer
+pub fn row<'a>(o: Opened<'a>, n: Row) -> Option<Statement>
     ensures { result ≡ row_asked o.entry.image.now o.entry.held n }
 {
     row_asked(o.image, o.held, n)
 }
 
-pub fn capacity<'a>(o: Opened<'a>, c: Chan) -> CapacityAnswer
+pub fn capacity<'a>(o: Opened<'a>, c: Chan) -> Option<u8>
     ensures { result ≡ capacity_asked o.entry.image.now o.entry.held c }
 {
     capacity_asked(o.image, o.held, c)
 }
 
-pub fn first_row<'a>(o: Opened<'a>, t: Task) -> FirstRowAnswer
+pub fn first_row<'a>(o: Opened<'a>, t: Task) -> Option<Row>
     ensures { result ≡ first_row_asked o.entry.image.now o.entry.held t }
 {
     first_row_asked(o.image, o.held, t)

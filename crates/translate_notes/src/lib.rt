@@ -6,7 +6,7 @@ ghost use Rattle.std.specs.Prelude.{◌≡◌, ◌+◌, ◌*◌};
 ghost use Rattle.translate_notes.specs.Notes.{op_code, op_port, op_arg, noted};
 
 use meaning::sizes::ROWS;
-use meaning::{Op, Row, port_number};
+use meaning::{Op, Row};
 
 // The length of an array of notes.
 pub const NOTES: usize = 3 * (ROWS as usize);
@@ -35,9 +35,9 @@ pub fn op_head(o: Op) -> u16
     ensures { result ≡ op_code o + 256 * op_port o }
 {
     match o {
-        Op::Send(p, _) => head_of(1, port_number(p)),
-        Op::Forward(p) => head_of(2, port_number(p)),
-        Op::Recv(p) => head_of(3, port_number(p)),
+        Op::Send(p, _) => head_of(1, u8::from(p)),
+        Op::Forward(p) => head_of(2, u8::from(p)),
+        Op::Recv(p) => head_of(3, u8::from(p)),
     }
 }
 
@@ -45,9 +45,9 @@ pub fn case_head(o: Op) -> u16
     ensures { result ≡ 8 + op_code o + 256 * op_port o }
 {
     match o {
-        Op::Send(p, _) => head_of(9, port_number(p)),
-        Op::Forward(p) => head_of(10, port_number(p)),
-        Op::Recv(p) => head_of(11, port_number(p)),
+        Op::Send(p, _) => head_of(9, u8::from(p)),
+        Op::Forward(p) => head_of(10, u8::from(p)),
+        Op::Recv(p) => head_of(11, u8::from(p)),
     }
 }
 

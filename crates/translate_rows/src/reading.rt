@@ -8,7 +8,7 @@ ghost use Rattle.text_reader.specs.Answers.{BodyTold, BlockTold, SecondTold, Ifo
 ghost use Rattle.translate_rows.specs.Noted.{BodyNoted, StmtNoted, BlockNoted, SecondNoted, IfokNoted, SelectNoted, CaseNoted, CasesNoted, LastNoted, Unmoved};
 
 use meaning::sizes::CASES;
-use meaning::{Row, port_number};
+use meaning::Row;
 use text_blocks::{read_case_head, read_end};
 use text_heads::read_head;
 use text_reader::kinds::{DEFAULT, ELSE};
@@ -245,7 +245,7 @@ fn read_stmt(
             Read::Done(next, rows + 1)
         }
         Head::Close(p, next) => {
-            note(notes, Row(rows), head_of(CLOSE_OP, port_number(p)), 0, 1);
+            note(notes, Row(rows), head_of(CLOSE_OP, u8::from(p)), 0, 1);
             Read::Done(next, rows + 1)
         }
         Head::Stop(next) => {
@@ -259,7 +259,7 @@ fn read_stmt(
             next,
             rows + 1,
             Row(rows),
-            head_of(RANGE_OP, port_number(p)),
+            head_of(RANGE_OP, u8::from(p)),
             0,
             notes,
         ),

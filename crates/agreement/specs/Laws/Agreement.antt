@@ -1,9 +1,9 @@
 -- Demand 3, over the definitions that the contracts of `translate`, `check`, `start`, `turn` and `stored` cite: for any job text
 -- that the translator accepts, its image passes the check, and from a fresh start, under every list of task numbers and choices,
 -- image and text give the same event at every turn and agree after it on all that is seen.
-use Rattle.std.specs.Prelude.{◌≡◌, refl, true, List, [], ◌∷◌, ◌++◌, map, ℕ, length, take}
+use Rattle.std.specs.Prelude.{◌≡◌, refl, true, List, [], ◌∷◌, ◌++◌, map, ℕ, length, take, Ok}
 use Rattle.std.proofs.Common.{sym, ap, ◌∙◌}
-use Rattle.agreement.specs.Kinds.{Task, Good, Image}
+use Rattle.agreement.specs.Kinds.{Task, Image}
 use Rattle.meaning.specs.Machine.{Turned, runs, seen_turn}
 use Rattle.meaning.specs.Text.{Job, text_look, text_start}
 use Rattle.meaning.specs.Bytes.{body_of, job_image}
@@ -34,7 +34,7 @@ module _ (text : List ℕ) (job : Job) (end rows : ℕ) (accepted : reading text
   slice = pre ++ job_image job
 
   -- "its image passes the check",
-  pub image_passes : checked slice ≡ Good
+  pub image_passes : checked slice ≡ Ok tt
   image_passes = accepted_passes text job end rows accepted pre
 
   -- "under every list of task numbers and choices, image and text give the same event at every turn and agree after it": the
@@ -65,7 +65,7 @@ module _ (text out : List ℕ) (n : ℕ) (answer : translated text (length out) 
   where_it_stands : translation ≡ pre ++ job_image holds.job
   where_it_stands = ap (λ i. pre ++ i) holds.image
 
-  pub translation_passes : checked translation ≡ Good
+  pub translation_passes : checked translation ≡ Ok tt
   translation_passes = ap checked where_it_stands ∙ image_passes text holds.job holds.end holds.rows holds.read pre
 
   pub translation_agrees : (schedule : List (Task × ℕ)) → map seen_turn (runs text_look schedule (text_start holds.job)) ≡ map seen_turn (seen_turns translation schedule (started translation).state fresh_values)

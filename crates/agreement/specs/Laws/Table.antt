@@ -1,9 +1,9 @@
 -- Document 01, 'On each side': P1 to P12, one table under one claim, over the definitions that the contracts cite: what a text is
 -- translated to, that its image passes the check, and the events of a schedule from a fresh start, by the text's meaning and by
 -- the image's.
-use Rattle.std.specs.Prelude.{◌≡◌, refl, List, [], ◌∷◌, map, ℕ, get_or}
+use Rattle.std.specs.Prelude.{◌≡◌, refl, List, [], ◌∷◌, map, ℕ, get_or, Result, Ok, ⊤}
 use Rattle.std.proofs.Common.{arith}
-use Rattle.agreement.specs.Kinds.{Task, Checked, Good, Translated, Image, EventNumbers}
+use Rattle.agreement.specs.Kinds.{Task, ImageFault, Translated, Image, EventNumbers}
 use Rattle.meaning.specs.Events.{event, numbers}
 use Rattle.meaning.specs.Machine.{Turned, is_on, receives_on, sends_on, payload, without, wake_all, send_on, receive_on, close_on, choose, cases_of, first_case, waiter_by, add_if, waiter_at, waiters_in, waiters, send_to, receive_from, attempt, ready, act, turn_as, turn_of, turn_if, runs, fresh}
 use Rattle.meaning.specs.Machine as m
@@ -105,7 +105,7 @@ table =
 -- What is found: the answer, the check of the image, the text's events and the image's.
 record Found : Type 0 where
   answer : Translated
-  check : Checked
+  check : Result ⊤ ImageFault
   of_text : List EventNumbers
   of_image : List EventNumbers
 
@@ -120,14 +120,14 @@ found_by e (got j at rows) = record {
   of_text = events_of (runs text_look e.schedule (text_start j));
   of_image = events_of (runs (image_look (rows_of (job_image j))) e.schedule (start_of (job_image j)));
 }
-found_by e none = record { answer = translated e.text e.room; check = Good; of_text = []; of_image = [] }
-found_by e (bad n place) = record { answer = translated e.text e.room; check = Good; of_text = []; of_image = [] }
+found_by e none = record { answer = translated e.text e.room; check = Ok tt; of_text = []; of_image = [] }
+found_by e (bad n place) = record { answer = translated e.text e.room; check = Ok tt; of_text = []; of_image = [] }
 
 found : Example → Found
 found e = found_by e (reading e.text)
 
 due : Example → Found
-due e = record { answer = e.answer; check = Good; of_text = e.events; of_image = e.events }
+due e = record { answer = e.answer; check = Ok tt; of_text = e.events; of_image = e.events }
 
 table_holds : map found table ≡ map due table
 unfolding found found_by due translated translated_to reading job tasks_from task_by task_end chans_from chan_by body_from stmt_by cases_from last_by case_by case_op second_by op_by port_by closed_by number_by many bind word_at first_not_allowed kind_of value_of start_at next_at bytes_at numeral decimal is_number only_digits leading_zero place_of differs same_word reserved run in_word is_allowed is_letter is_digit is_blank numbers is_on receives_on sends_on payload without wake_all send_on receive_on close_on choose cases_of first_case waiter_by add_if waiter_at waiters_in waiters send_to receive_from attempt ready m.close act turn_as turn_of turn_if m.turn runs fresh enter text_repeat text_cases text_default text_stmt text_item text_look text_start image_case image_cases image_default image_repeat image_statement image_look image_start case_count size_b entry case_rows default_row rows_b rows_t first_rows fields_of statement_of row_bytes first_bytes image_bytes job_image trailer_of row_count channel_count task_count distance body_of fields_of_row rows_in capacity_in first_row_in rows_of capacities_of first_rows_of b.tabulate start_of checked body_checked counts_good refused_at first_of row_bad row_good statement_good first_row_bad capacity_bad cases_follow otherwise_good is_target is_case_row op_good port_good owed_at owed_after in_table counts_of counts_in mark_of version_of

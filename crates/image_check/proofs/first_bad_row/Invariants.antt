@@ -1,12 +1,9 @@
 use mathlib.Core.Path.{◌≡◌}
-use Prim.Native.Nat.{◌≤◌, ◌-◌}
+use Prim.Native.Nat.{◌-◌}
 use Rattle.image_check.specs.Check.{first_of, row_bad, owed_at}
 use Rattle.image_check.proofs.first_bad_row.Given as goal
 
 abbrev pub invariant-loop-i : goal.invariant-loop-i
 invariant-loop-i l =
     let bad = row_bad l.body l.rows l.channels in
-    (l.i ≤ l.rows) × ((l.owed ≡ owed_at l.body l.i) × (first_of bad l.rows 0 ≡ first_of bad (l.rows - l.i) l.i))
-
-abbrev pub decreases-loop-i : goal.decreases-loop-i
-decreases-loop-i l = l.rows - l.i
+    (l.owed ≡ owed_at l.body l.i) × (first_of bad l.rows 0 ≡ first_of bad (l.rows - l.i) l.i)

@@ -1,11 +1,11 @@
 -- The check computes. Small images, each with the answer that document 01's list gives: one table, one claim. Every byte stands
 -- here as document 01's 'Step image' says it; nothing is written by the definitions that it is to try.
-use Rattle.std.specs.Prelude.{◌≡◌, refl, List, [], ◌∷◌, ◌++◌, map, ℕ}
+use Rattle.std.specs.Prelude.{◌≡◌, refl, List, [], ◌∷◌, ◌++◌, map, ℕ, Result, Ok, Err, ⊤}
 use Rattle.meaning.specs.Bytes.{fields_of, statement_of, trailer_of, distance, mark_of, version_of, body_of, fields_of_row, capacity_in, first_row_in}
 use Rattle.image_rows.specs.Rows.{counts_in, counts_of}
-use Rattle.image_check.specs.Kinds.{Checked, Good, Refused}
+use Rattle.image_check.specs.Kinds.{ImageFault}
 use Rattle.image_row.specs.Row.{in_table, owed_after, port_good, op_good, is_case_row, is_target, otherwise_good, cases_follow, statement_good, row_good}
-use Rattle.image_check.specs.Check.{owed_at, capacity_bad, row_bad, first_row_bad, first_of, refused_at, body_checked, counts_good, checked}
+use Rattle.image_check.specs.Check.{owed_at, capacity_bad, row_bad, first_row_bad, first_of, refused_at, body_checked, counts_good, checked, fault_number, fault_place}
 
 abbrev Bytes : Type 0
 Bytes = List ℕ
@@ -35,11 +35,20 @@ three a b c = a ++ b ++ c ++ stop_row ++ (0 ∷ 0 ∷ 0 ∷ []) ++ trailer 4 1 1
 abbrev stop_and : Bytes → Bytes → Bytes → Bytes
 stop_and caps firsts t = stop_row ++ caps ++ firsts ++ t
 
+-- An answer as document 01 tells it: good, or the refusal's number and place.
+data Told : Type 0 where
+  Good : Told
+  Refused : ℕ → ℕ → Told
+
+abbrev told : Result ⊤ ImageFault → Told
+told (Ok done) = Good
+told (Err fault) = Refused (fault_number fault) (fault_place fault)
+
 record Example : Type 0 where
   image : Bytes
-  answer : Checked
+  answer : Told
 
-abbrev example : Bytes → Checked → Example
+abbrev example : Bytes → Told → Example
 example bs a = record { image = bs; answer = a }
 
 abbrev examples : List Example
@@ -93,6 +102,6 @@ examples =
     ∷ example (stop_and [] (0 ∷ 1 ∷ []) (trailer 1 0 1 10)) (Refused 28 0)
     ∷ []
 
-examples_hold : map (λ e. checked e.image) examples ≡ map (λ e. e.answer) examples
+examples_hold : map (λ e. told (checked e.image)) examples ≡ map (λ e. e.answer) examples
 unfolding fields_of statement_of trailer_of distance mark_of version_of body_of fields_of_row capacity_in first_row_in counts_in counts_of in_table owed_after port_good op_good is_case_row owed_at is_target otherwise_good cases_follow capacity_bad statement_good row_good row_bad first_row_bad first_of refused_at body_checked counts_good checked
 examples_hold = refl

@@ -1,11 +1,11 @@
 -- An image that passes the check is sound: from the tests to the facts.
-use Rattle.std.specs.Prelude.{◌≡◌, refl, Bool, true, false, cond, not, ◌&&◌, List, eqb, leb, ltb, length}
+use Rattle.std.specs.Prelude.{◌≡◌, refl, Bool, true, false, cond, not, ◌&&◌, List, eqb, leb, ltb, length, Option, Some, None, Result, Ok, Err, ⊤}
 use Rattle.std.proofs.Math.Path.{sym}
 use Rattle.std.proofs.Common.{ap, ◌∙◌, add-zero, zero-add, arith, length-drop}
 use Prim.Native.Nat.{ℕ, zero, suc, ◌+◌, ◌-◌, ◌≤◌, ◌<◌}
 use borrow.Author.Tests.{ltb-true, ltb-false, leb-true, eqb-true, lt-ltb, lt-leb, not-true, not-false}
-use Rattle.image_check.specs.Kinds.{Row, Port, Nil, On, Op, Send, Forward, Recv, Otherwise, Wait, Go, Statement, Do, Close, Range, Repeat, Ifok, Select, Case, Stop, Fields, Counts, Checked, Good, Refused, First, Nowhere, At}
-use Rattle.meaning.specs.Numbers.{row_limit, channel_limit, task_limit, capacity_limit, case_limit, lap_limit, depth_limit, image_too_short, bad_mark, bad_version, bad_counts, bad_distance, bad_row, bad_capacity, bad_first_row}
+use Rattle.image_check.specs.Kinds.{Row, Port, Nil, On, Op, Send, Forward, Recv, Otherwise, Wait, Go, Statement, Do, Close, Range, Repeat, Ifok, Select, Case, Stop, Fields, Counts, ImageFault, TooShort, BadMark, BadVersion, BadCounts, BadDistance, BadRow, BadCapacity, BadFirstRow}
+use Rattle.meaning.specs.Numbers.{row_limit, channel_limit, task_limit, capacity_limit, case_limit, lap_limit, depth_limit}
 use Rattle.meaning.specs.Image.{row_no, chan_no, task_no}
 use Rattle.meaning.specs.Bytes.{fields, statement_of, trailer_size, image_mark, image_version, mark_of, version_of, span_of, row_count, channel_count, task_count, distance, body_of, fields_of_row, rows_in, capacity_in, first_row_in}
 use Rattle.meaning.specs.Laws.Tests.{both}
@@ -111,13 +111,13 @@ module _ (rs : List ℕ) where
           statement_is i (owed_at rs i) (statement_of f) h.1
 
 -- A search that finds nothing has passed every number.
-none_bad : (bad : ℕ → Bool) (n i : ℕ) → first_of bad n i ≡ Nowhere → (k : ℕ) → k < n → bad (i + k) ≡ false
+none_bad : (bad : ℕ → Bool) (n i : ℕ) → first_of bad n i ≡ None → (k : ℕ) → k < n → bad (i + k) ≡ false
 unfolding first_of
 none_bad bad zero i e = λ k h. absurd (omega arith)
 none_bad bad (suc n) i e = step (bad i) refl e (none_bad bad n (suc i))
   where
-    step : (b : Bool) → bad i ≡ b → cond b (At i) (first_of bad n (suc i)) ≡ Nowhere
-        → (first_of bad n (suc i) ≡ Nowhere → (k : ℕ) → k < n → bad (suc i + k) ≡ false) → (k : ℕ) → k < suc n → bad (i + k) ≡ false
+    step : (b : Bool) → bad i ≡ b → cond b (Some i) (first_of bad n (suc i)) ≡ None
+        → (first_of bad n (suc i) ≡ None → (k : ℕ) → k < n → bad (suc i + k) ≡ false) → (k : ℕ) → k < suc n → bad (i + k) ≡ false
     step true z e rest k h = cc
     step false z e rest zero h = rw add-zero z
     step false z e rest (suc k) h =
@@ -126,15 +126,15 @@ none_bad bad (suc n) i e = step (bad i) refl e (none_bad bad n (suc i))
 
 -- THE LAW
 
-refused_at_lem : (n : ℕ) (f : First) (r : Checked) → refused_at n f r ≡ Good → (f ≡ Nowhere) × (r ≡ Good)
+refused_at_lem : (fault : ℕ → ImageFault) (f : Option ℕ) (r : Result ⊤ ImageFault) → refused_at fault f r ≡ Ok tt → (f ≡ None) × (r ≡ Ok tt)
 unfolding refused_at
-refused_at_lem n Nowhere r e = (refl, e)
-refused_at_lem n (At i) r e = (cc, cc)
+refused_at_lem fault None r e = (refl, e)
+refused_at_lem fault (Some i) r e = (cc, cc)
 
 -- A refusal ahead of the rest did not come.
-passed : (b : Bool) (n : ℕ) (r : Checked) → cond b (Refused n 0) r ≡ Good → (b ≡ false) × (r ≡ Good)
-passed true n r e = (cc, cc)
-passed false n r e = (refl, e)
+passed : (b : Bool) (fault : ImageFault) (r : Result ⊤ ImageFault) → cond b (Err fault) r ≡ Ok tt → (b ≡ false) × (r ≡ Ok tt)
+passed true fault r e = (cc, cc)
+passed false fault r e = (refl, e)
 
 counts_are : (k : Counts) → counts_good k ≡ true
     → (1 ≤ k.rows) × (k.rows ≤ row_limit) × (k.channels ≤ channel_limit) × (1 ≤ k.tasks) × (k.tasks ≤ task_limit) × (k.back ≡ span_of k.rows k.channels k.tasks)
@@ -169,32 +169,32 @@ module _ (rs : List ℕ) (k : Counts) where
   unfolding first_row_bad
   first_is t e = target_is rs k.rows (first_row_in rs k.rows k.channels (task_no t)) (not-false _ e)
 
-  all_passed : (bad : ℕ → Bool) (n : ℕ) → first_of bad n 0 ≡ Nowhere → (i : ℕ) → i < n → bad i ≡ false
+  all_passed : (bad : ℕ → Bool) (n : ℕ) → first_of bad n 0 ≡ None → (i : ℕ) → i < n → bad i ≡ false
   all_passed bad n e i h = ap bad (sym (zero-add i)) ∙ none_bad bad n 0 e i h
 
-  body_is : body_checked rs k ≡ Good
+  body_is : body_checked rs k ≡ Ok tt
       → ((i : ℕ) → i < k.rows → StatementSound rs k.rows k.channels i (rows_in rs (row_no i)))
       × ((c : ℕ) → c < k.channels → capacity_in rs k.rows (chan_no c) ≤ capacity_limit)
       × ((t : ℕ) → t < k.tasks → Target rs k.rows (first_row_in rs k.rows k.channels (task_no t)))
   unfolding body_checked
   body_is e =
-      let rows = refused_at_lem bad_row (first_of (row_bad rs k.rows k.channels) k.rows 0) _ e in
-      let caps = refused_at_lem bad_capacity (first_of (capacity_bad rs k.rows) k.channels 0) _ rows.1 in
-      let firsts = refused_at_lem bad_first_row (first_of (first_row_bad rs k.rows k.channels) k.tasks 0) Good caps.1 in (
+      let rows = refused_at_lem (λ i. BadRow (row_no i)) (first_of (row_bad rs k.rows k.channels) k.rows 0) _ e in
+      let caps = refused_at_lem (λ c. BadCapacity (chan_no c)) (first_of (capacity_bad rs k.rows) k.channels 0) _ rows.1 in
+      let firsts = refused_at_lem (λ t. BadFirstRow (task_no t)) (first_of (first_row_bad rs k.rows k.channels) k.tasks 0) (Ok tt) caps.1 in (
         λ i h. row_is rs k.rows k.channels i (all_passed (row_bad rs k.rows k.channels) k.rows rows.0 i h),
         λ c h. capacity_is c (all_passed (capacity_bad rs k.rows) k.channels caps.0 c h),
         λ t h. first_is t (all_passed (first_row_bad rs k.rows k.channels) k.tasks firsts.0 t h),
       )
 
-pub good_sound : (bs : List ℕ) → checked bs ≡ Good → Sound bs
+pub good_sound : (bs : List ℕ) → checked bs ≡ Ok tt → Sound bs
 unfolding checked counts_of counts_in row_count channel_count task_count distance
 good_sound bs e =
     let k = counts_of bs in
-    let short = passed (ltb (length bs) trailer_size) image_too_short _ e in
-    let mark = passed (not (eqb (mark_of bs) image_mark)) bad_mark _ short.1 in
-    let version = passed (not (eqb (version_of bs) image_version)) bad_version _ mark.1 in
-    let counted = passed (not (counts_good k)) bad_counts _ version.1 in
-    let reach = passed (ltb (length bs - trailer_size) k.back) bad_distance (body_checked (body_of bs) k) counted.1 in
+    let short = passed (ltb (length bs) trailer_size) TooShort _ e in
+    let mark = passed (not (eqb (mark_of bs) image_mark)) BadMark _ short.1 in
+    let version = passed (not (eqb (version_of bs) image_version)) BadVersion _ mark.1 in
+    let counted = passed (not (counts_good k)) BadCounts _ version.1 in
+    let reach = passed (ltb (length bs - trailer_size) k.back) BadDistance (body_checked (body_of bs) k) counted.1 in
     let n = counts_are k (not-false _ counted.0) in
     let b = body_is (body_of bs) k reach.1 in
     record {

@@ -1,9 +1,9 @@
 -- What `turn` answers is what the meaning says.
-use Rattle.std.specs.Prelude.{◌≡◌, true, List, ℕ}
+use Rattle.std.specs.Prelude.{◌≡◌, true, List, ℕ, Ok}
 use Rattle.std.proofs.Common.{sym, subst, ◌∙◌}
 use Rattle.std.proofs.Math.Path.{ap}
 use Rattle.std.proofs.Math.Bool.{cond}
-use Rattle.machine.specs.Kinds.{Task, Good, State, Turned}
+use Rattle.machine.specs.Kinds.{Task, State, Turned}
 use Rattle.meaning.specs.Numbers.{unfit}
 use Rattle.meaning.specs.Machine as m
 use Rattle.meaning.specs.Image.{Spot}
@@ -31,7 +31,7 @@ pub record KeptIn (bs : List ℕ) (s : State) (b : Values) : Type 0 where
   pub arrays : Arrays (records_of s) b
   pub fit : fitting_in (body_of bs) (counts_of bs) s.words s.cells ≡ true
 
-module _ (bs : List ℕ) (s : State) (b : Values) (t : Task) (choice : ℕ) (good : checked bs ≡ Good)
+module _ (bs : List ℕ) (s : State) (b : Values) (t : Task) (choice : ℕ) (good : checked bs ≡ Ok tt)
     (fit : fitting_in (body_of bs) (counts_of bs) s.words s.cells ≡ true) where
   abbrev done : Done
   done = stepped (body_of bs) (row_count bs) (records_of s) b t choice

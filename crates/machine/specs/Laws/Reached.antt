@@ -1,10 +1,10 @@
 -- A caller who starts and only ever turns: every state that he meets fits the image, and turn for turn he sees the meaning's run
 -- of the image, whatever the tasks and choices.
-use Rattle.std.specs.Prelude.{◌≡◌, true, ℕ}
+use Rattle.std.specs.Prelude.{◌≡◌, true, ℕ, Ok}
 use Rattle.std.proofs.Math.Path.{refl, ap, ap₂}
 use Rattle.std.proofs.Common.{◌∙◌}
 use mathlib.Core.List.{List, [], ◌∷◌}
-use Rattle.machine.specs.Kinds.{Task, Good, State, Turned}
+use Rattle.machine.specs.Kinds.{Task, State, Turned}
 use Rattle.meaning.specs.Machine as m
 use Rattle.meaning.specs.Image.{image_look}
 use Rattle.meaning.specs.Bytes.{body_of, rows_of, start_of}
@@ -21,7 +21,7 @@ use Rattle.machine.specs.Runs.{turns, seen_turns}
 use Rattle.machine.specs.Laws.Start.{started_plain, started_means, started_kept}
 use Rattle.machine.specs.Laws.Meant.{KeptIn, turned_means, turned_kept}
 
-module _ (bs : List ℕ) (good : checked bs ≡ Good) where
+module _ (bs : List ℕ) (good : checked bs ≡ Ok tt) where
   abbrev FitsIn : Turned → Type 0
   FitsIn r = fitting_in (body_of bs) (counts_of bs) r.state.words r.state.cells ≡ true
 

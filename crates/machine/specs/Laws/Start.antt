@@ -1,9 +1,9 @@
 -- A started state reads as fresh records, and stands for the meaning's fresh start of the image.
-use Rattle.std.specs.Prelude.{◌≡◌, refl, cond, List, [], ◌∷◌, ℕ, zero, suc, ◌≤◌, ltb, length, take, replicate}
+use Rattle.std.specs.Prelude.{◌≡◌, refl, cond, List, [], ◌∷◌, ℕ, zero, suc, ◌≤◌, ltb, length, take, replicate, Ok}
 use Rattle.std.proofs.Math.Path.{ap, subst}
 use Rattle.std.proofs.Common.{sym, ◌∙◌, arith, lt-ltb}
 use Rattle.std.proofs.lemmas.List.{get_or-replicate}
-use Rattle.machine.specs.Kinds.{Row, Good, TaskState, Started}
+use Rattle.machine.specs.Kinds.{Row, TaskState, Started}
 use Rattle.meaning.specs.Numbers.{task_limit, channel_limit, capacity_limit}
 use Rattle.meaning.specs.Image.{row_no, task_no}
 use Rattle.meaning.specs.Bytes.{row_count, channel_count, task_count, body_of, first_row_in, tabulate, start_of}
@@ -52,7 +52,7 @@ module _ (bs : List ℕ) where
     cells16 = λ c h. ap (λ (l : List ℕ). length l) (get_or-replicate channel_limit c (replicate capacity_limit 0) [] h);
   }
 
-  module _ (good : checked bs ≡ Good) where
+  module _ (good : checked bs ≡ Ok tt) where
     started_first : (started bs).state ≡ fresh_state (body_of bs) (counts_of bs)
     unfolding started
     started_first = ap (λ a. (started_as (body_of bs) (counts_of bs) a).state) good

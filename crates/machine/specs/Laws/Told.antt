@@ -1,5 +1,5 @@
 -- A turn made in place is told cell by cell, by the arrays that it leaves: what `turn` answers of the state that they were.
-use Rattle.std.specs.Prelude.{◌≡◌, refl, true, List, [], ◌∷◌, ℕ, zero, suc, ◌<◌, length, get_or}
+use Rattle.std.specs.Prelude.{◌≡◌, refl, true, List, [], ◌∷◌, ℕ, zero, suc, ◌<◌, length, get_or, Ok}
 use Rattle.std.proofs.Math.Path.{sym}
 use Rattle.std.proofs.Common.{ap, ap₂, ◌∙◌, le_of_suc-le-suc, not-suc-le-zero, arith}
 use Rattle.std.specs.Int.{w16}
@@ -9,7 +9,7 @@ use denote.Laws.{Is}
 use denote.Shadow.{shadow}
 use denote.Plain.{UInt}
 use denote.Array.{Array, each}
-use Rattle.machine.specs.Kinds.{Task, Good, Moved, State, Turned}
+use Rattle.machine.specs.Kinds.{Task, Moved, State, Turned}
 use Rattle.meaning.specs.Bytes.{row_count, body_of}
 use Rattle.image_rows.specs.Rows.{counts_in, counts_of}
 use Rattle.image_check.specs.Check.{checked}
@@ -41,7 +41,7 @@ module _ (w c : List ℕ) (lw : length w ≡ 33) (lc : length c ≡ 181) (p : Pl
 abbrev pub told_turn : List ℕ → List ℕ → Moved → Turned
 told_turn w c m = record { event = m.event; state = record { words = w; cells = c }; change = m.change }
 
-module _ (bs : List ℕ) (s : State) (b : Values) (t : Task) (choice : ℕ) (good : checked bs ≡ Good)
+module _ (bs : List ℕ) (s : State) (b : Values) (t : Task) (choice : ℕ) (good : checked bs ≡ Ok tt)
     (fit : fitting_in (body_of bs) (counts_of bs) s.words s.cells ≡ true) where
   pub turned_in_place : (w c : List ℕ) → length w ≡ 33 → length c ≡ 181 → (m : Moved)
       → MadeTurn s.words s.cells w c m (λ z. stepped (body_of bs) (counts_of bs).rows z b t choice) → turned bs s b t choice ≡ told_turn w c m

@@ -1,12 +1,11 @@
 -- What an answer that is no refusal says of the call.
-use Rattle.std.specs.Prelude.{◌≡◌, Bool, true, false, cond, List, ℕ, ◌*◌, ◌%◌, ◌≤◌, ◌<◌, eqb, leb}
+use Rattle.std.specs.Prelude.{◌≡◌, Bool, true, false, cond, List, ℕ, ◌*◌, ◌%◌, ◌≤◌, ◌<◌, eqb, leb, Result, Ok, Err, ⊤}
 use Rattle.std.proofs.Math.Path.{refl}
 use Rattle.std.proofs.Common.{sym, ap, ap₂, subst, ◌∙◌, arith, leb-true, le-leb}
 use Rattle.std.proofs.Math.Decide.{dec_le}
 use Rattle.std.proofs.lemmas.Bool.{lt-leb}
 use Rattle.std.proofs.lemmas.List.Edits.{sets}
-use Rattle.machine_turns.specs.Kinds.{Checked, Good, State, Outcome}
-use Rattle.image_check.specs.declared.Checked.TheVariants as check
+use Rattle.machine_turns.specs.Kinds.{ImageFault, State, Outcome}
 use Rattle.meaning.specs.Bytes.{body_of}
 use Rattle.image_rows.specs.Rows.{counts_of}
 use Rattle.image_check.specs.Check.{checked}
@@ -26,19 +25,19 @@ taken true o n i d = (refl, d)
 taken false o n i d = absurd d
 
 pub record Begun (bs : List ℕ) (s : State) (pairs room : ℕ) : Type 0 where
-  pub good : checked bs ≡ Good
+  pub good : checked bs ≡ Ok tt
   pub fit : fitting_in (body_of bs) (counts_of bs) s.words s.cells ≡ true
   pub even : eqb (pairs % 2) 0 ≡ true
   pub enough : leb (needed pairs) room ≡ true
 
 module _ (bs : List ℕ) (s : State) (pairs room : ℕ) where
-  after : (a : Checked) → checked bs ≡ a → IsDone (outcome_after (body_of bs) (counts_of bs) s pairs room a) → Begun bs s pairs room
-  after Good e d =
+  after : (a : Result ⊤ ImageFault) → checked bs ≡ a → IsDone (outcome_after (body_of bs) (counts_of bs) s pairs room a) → Begun bs s pairs room
+  after (Ok done) e d =
       let fit = taken _ (outcome_of pairs room) _ _ d in
       let even = taken (eqb (pairs % 2) 0) _ _ _ fit.1 in
       let enough = taken (leb (needed pairs) room) _ _ _ even.1 in
       record { good = e; fit = fit.0; even = even.0; enough = enough.0 }
-  after (check.Refused n i) e d = absurd d
+  after (Err fault) e d = absurd d
 
   pub done_begun : (o : Outcome) → o ≡ outcome bs s pairs room → (n : ℕ) → o ≡ Outcome.Done n → Begun bs s pairs room
   unfolding outcome

@@ -1,8 +1,8 @@
 -- The answers compute: bytes of pairs, bytes of room, and what is answered once the image is good and the state fits; pairs by hand.
-use Rattle.std.specs.Prelude.{◌≡◌, refl, List, [], ◌∷◌, map, ℕ, replicate}
-use Rattle.machine_turns.specs.Kinds.{Counts, Good, State, Outcome}
-use Rattle.image_check.specs.declared.Checked.TheVariants as check
-use Rattle.meaning.specs.Image.{task_no}
+use Rattle.std.specs.Prelude.{◌≡◌, refl, List, [], ◌∷◌, map, ℕ, replicate, Ok, Err}
+use Rattle.machine_turns.specs.Kinds.{Counts, State, Outcome}
+use Rattle.image_check.specs.declared.ImageFault.TheVariants.{BadRow}
+use Rattle.meaning.specs.Image.{row_no, task_no}
 use Rattle.meaning.specs.Bytes.{tabulate}
 use Rattle.machine_records.specs.Fitting.{every, fitting}
 use Rattle.machine_store.specs.Store.{records_in}
@@ -43,9 +43,9 @@ counts = record { rows = 1; channels = 0; tasks = 1; back = 10 }
 none : State
 none = record { words = replicate 33 0; cells = replicate 181 0 }
 
-refused_first : outcome_after [] counts none 3 0 (check.Refused 26 7) ≡ Outcome.Refused 26 7
+refused_first : outcome_after [] counts none 3 0 (Err (BadRow (row_no 7))) ≡ Outcome.Refused 26 7
 refused_first = refl
 
-unfit_next : outcome_after [] counts none 3 0 Good ≡ Outcome.Refused 17 0
+unfit_next : outcome_after [] counts none 3 0 (Ok tt) ≡ Outcome.Refused 17 0
 unfolding counts none fitting_in plainly every fitting records_in tabulate
 unfit_next = refl

@@ -1,8 +1,8 @@
 -- Every text that the reader accepts is a proper job, whose rows the reader has counted; so its image passes the image check,
 -- gives the same turns as the text, and has the length that those rows call for.
-use Rattle.std.specs.Prelude.{◌≡◌, List, ◌++◌, map, ℕ, ◌+◌, ◌≤◌, length}
+use Rattle.std.specs.Prelude.{◌≡◌, List, ◌++◌, map, ℕ, ◌+◌, ◌≤◌, length, Ok}
 use Rattle.std.proofs.Common.{ap, sym, subst, ◌∙◌}
-use Rattle.text_laws.specs.Kinds.{Task, Good, Nowhere}
+use Rattle.text_laws.specs.Kinds.{Task, Nowhere}
 use Rattle.meaning.specs.Numbers.{text_limit}
 use Rattle.meaning.specs.Machine.{runs, seen_turn}
 use Rattle.meaning.specs.Text.{Job, text_look, text_start}
@@ -37,7 +37,7 @@ reading_plain s j at rows =
 
 module _ (s : List ℕ) (j : Job) (at rows : ℕ) (e : reading s ≡ got j at rows) where
   -- Behind any bytes, as an image stands in its slice.
-  pub accepted_passes : (pre : List ℕ) → checked (pre ++ job_image j) ≡ Good
+  pub accepted_passes : (pre : List ℕ) → checked (pre ++ job_image j) ≡ Ok tt
   accepted_passes pre = laid_good pre j (reading_proper s j at rows e).0
 
   -- Under every schedule: the same events, and the same of all that is seen.

@@ -424,7 +424,7 @@ read_stmt-returns-in-Close t c =
     let read_head = c.read_head in
     let f = head_told args.text.now args.channels args.depth args.at args.rows c.in-Close.is read_head.ensures in (
       λ k h. done_told _ _ _ ∙ head_stmt _ _ _ _ _ c.in-Close.is read_head.ensures _,
-      λ k x a r h e. close_noted args.depth args.rows args.notes.now (omega arith) _ (same_got (head_as args.text.now args.channels args.depth args.at args.rows c.in-Close.is read_head.ensures (body_from k args.text.now args.channels (args.depth + 1)) e)).0 c.note-in-Close.ensures (c.head_of.ensures ∙ ap (λ (n : ℕ). 4 + 256 * n) c.port_number.ensures),
+      λ k x a r h e. close_noted args.depth args.rows args.notes.now (omega arith) _ (same_got (head_as args.text.now args.channels args.depth args.at args.rows c.in-Close.is read_head.ensures (body_from k args.text.now args.channels (args.depth + 1)) e)).0 c.note-in-Close.ensures (c.head_of.ensures ∙ ap (λ (n : ℕ). 4 + 256 * n) c.from.ensures),
       done_some _ _ refl,
     )
 
@@ -446,7 +446,7 @@ read_stmt-returns-in-Range t c =
       λ k h. c.read_block.ensures.0 k (range _) (omega arith) ∙ head_stmt _ _ _ _ _ c.in-Range.is read_head.ensures _,
       λ k x a r h e.
           let g = bind_got _ _ (head_as args.text.now args.channels args.depth args.at args.rows c.in-Range.is read_head.ensures (body_from k args.text.now args.channels (args.depth + 1)) e) in
-          range_noted args.depth args.rows args.notes.now (omega arith) _ g.0 (closed_got _ _ _ _ g.4) (c.read_block.ensures.1 k g.0 g.1 g.2 (omega arith) g.3) (c.head_of-in-Range.ensures ∙ ap (λ (n : ℕ). 5 + 256 * n) c.port_number-in-Range.ensures),
+          range_noted args.depth args.rows args.notes.now (omega arith) _ g.0 (closed_got _ _ _ _ g.4) (c.read_block.ensures.1 k g.0 g.1 g.2 (omega arith) g.3) (c.head_of-in-Range.ensures ∙ ap (λ (n : ℕ). 5 + 256 * n) c.from-in-Range.ensures),
       stmt_some _ _ _ _ _ _ _ c.in-Range.is read_head.ensures tt (λ k h. c.read_block.ensures.0 k (range _) (omega arith) ∙ head_stmt _ _ _ _ _ c.in-Range.is read_head.ensures _),
     )
 
