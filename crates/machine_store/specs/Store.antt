@@ -1,5 +1,5 @@
 -- The records that the two arrays of a state read as, and what a change of the arrays makes of them. The places stand here alone.
-use Rattle.std.specs.Prelude.{◌≡◌, ℕ, ◌+◌, ◌*◌, ◌<◌, ◌≤◌, Bool, true, false, not, List, [], ◌∷◌, ◌++◌, map, ◌==◌, slice_index}
+use Rattle.std.specs.Prelude.{◌≡◌, ℕ, ◌+◌, ◌*◌, ◌<◌, ◌≤◌, Bool, true, false, not, List, [], ◌∷◌, ◌++◌, map, ◌==◌, slice_index, length}
 use Rattle.machine_store.specs.Kinds.{Task, Row, TaskState, ChanState, Moved, State}
 use Rattle.meaning.specs.Numbers.{task_limit, channel_limit, depth_limit}
 use Rattle.meaning.specs.Statuses.{status_number, status_of}
@@ -123,10 +123,15 @@ pub record Plain (c : List ℕ) : Type 0 where
   pub oks : (t : ℕ) → t < task_limit → slice_index c (ok_place + t) ≤ 1
   pub closeds : (k : ℕ) → k < channel_limit → slice_index c (closed_place + k) ≤ 1
 
--- A CHANGE: the state x became y, whose records are f of those of x, and stays plain.
+-- The arrays have a state's lengths.
+abbrev pub Whole : State → Type 0
+Whole x = (length x.words ≡ 33) × (length x.cells ≡ 181)
+
+-- A CHANGE: the state x became y, whose records are f of those of x, and stays plain and of its lengths.
 pub record Made (x y : State) (f : Records → Records) : Type 0 where
   pub same : records_of y ≡ f (records_of x)
   pub plain : Plain x.cells → Plain y.cells
+  pub whole : Whole x → Whole y
 
 -- The same of a turn, which answers m besides.
 abbrev pub done_in : State → Moved → Done
@@ -135,3 +140,4 @@ done_in x m = record { event = m.event; after = records_of x; change = m.change 
 pub record MadeTurn (x y : State) (m : Moved) (f : Records → Done) : Type 0 where
   pub same : done_in y m ≡ f (records_of x)
   pub plain : Plain x.cells → Plain y.cells
+  pub whole : Whole x → Whole y

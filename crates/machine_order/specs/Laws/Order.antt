@@ -37,6 +37,7 @@ join_made w c lc t =
         second2 c (32 + i) t.0 176 n (omega arith),
       );
       plain = λ z. q (p z);
+      whole = λ z. (z.0, length-set (set c (32 + i) t.0) 176 n ∙ length-set c (32 + i) t.0 ∙ z.1);
     }
 
 -- The cells after the first j places of an order are written.
@@ -91,6 +92,7 @@ module _ (w c : List ℕ) (lc : length c ≡ 181) (o : List Task) (lo : length o
           get_or-set_same (written c o 16) 176 n 0 (omega arith),
         );
         plain = λ p. plain_set (written c o 16) 176 n (λ a. absurd (omega arith)) (λ a b. absurd (omega arith)) (λ a b. absurd (omega arith)) (written_plain 16 (omega arith) p);
+        whole = λ z. (z.0, length-set (written c o 16) 176 n ∙ l ∙ z.1);
       }
 
 -- One lap of the walk that keeps every task but t: x stands at place i.

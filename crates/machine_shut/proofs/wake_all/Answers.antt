@@ -27,7 +27,7 @@ loop-i-preserved c =
             others_same z (records_of l.state) _ _ w.got.ensures.same l.invariant.1.1.0,
             (
               (λ p. w.got.ensures.plain (l.invariant.1.1.1.0 p)),
-              λ s b. walked_wakes a.body.now a.c s z a.before.now b order_long l.i within c.name-t.result named c.row_in.result c.row_in.ensures c.missed_at.result c.missed_at.ensures _ _ l.kept l.w (l.invariant.1.1.1.1 s b) _ w.in-Some.is _ (ap (λ (y : Records). y.tasks) w.got.ensures.same),
+              ((λ p. w.got.ensures.whole (l.invariant.1.1.1.1.0 p)), λ s b. walked_wakes a.body.now a.c s z a.before.now b order_long l.i within c.name-t.result named c.row_in.result c.row_in.ensures c.missed_at.result c.missed_at.ensures _ _ l.kept l.w (l.invariant.1.1.1.1.1 s b) _ w.in-Some.is _ (ap (λ (y : Records). y.tasks) w.got.ensures.same)),
             ),
           ),
         ),
@@ -40,7 +40,7 @@ loop-i-preserved c =
             l.invariant.1.1.0,
             (
               l.invariant.1.1.1.0,
-              λ s b. walked_keeps a.body.now a.c s z a.before.now b order_long l.i within c.name-t.result named c.row_in.result c.row_in.ensures c.missed_at.result c.missed_at.ensures _ _ l.kept l.w (l.invariant.1.1.1.1 s b) w.in-None.is,
+              (l.invariant.1.1.1.1.0, λ s b. walked_keeps a.body.now a.c s z a.before.now b order_long l.i within c.name-t.result named c.row_in.result c.row_in.ensures c.missed_at.result c.missed_at.ensures _ _ l.kept l.w (l.invariant.1.1.1.1.1 s b) w.in-None.is),
             ),
           ),
         ),
@@ -51,4 +51,4 @@ pub returns : goal.returns
 returns c =
     let a = c.args in
     let l = c.loop-i in
-    λ s b. walked_all a.body.now a.c s a.before.now a.state.now l.state _ b l.i (search rules) l.invariant.1.1.0 l.invariant.1.1.1.0 l.kept l.w (l.invariant.1.1.1.1 s b) c.put_order.ensures _ (search rules)
+    λ s b. walked_all a.body.now a.c s a.before.now a.state.now l.state _ b l.i (search rules) l.invariant.1.1.0 l.invariant.1.1.1.0 l.invariant.1.1.1.1.0 l.kept l.w (l.invariant.1.1.1.1.1 s b) c.put_order.ensures _ (search rules)

@@ -1,7 +1,7 @@
 -- What the two arrays read as where cells of one part are set and the others are as they were.
 use Rattle.std.specs.Prelude.{◌≡◌, ℕ, zero, suc, ◌+◌, ◌*◌, ◌%◌, ◌<◌, ◌≤◌, Bool, true, false, List, [], ◌∷◌, length, get_or, set, ◌≢◌, slice_index, slice_index_or, slice_set}
 use Rattle.std.proofs.Math.Path.{refl, ap}
-use Rattle.std.proofs.Common.{sym, ◌∙◌, zero-add, mod-lt, arith, get_or-set_same, get_or-set_other}
+use Rattle.std.proofs.Common.{sym, ◌∙◌, zero-add, mod-lt, arith, length-set, get_or-set_same, get_or-set_other}
 use Rattle.std.proofs.Math.Decide.{ℕ_discrete}
 use Rattle.machine_store.specs.Kinds.{Task, Chan, Row, Status, Able, Waiting, Ended, TaskState, ChanState, Moved, Event, Change, State}
 use Rattle.meaning.specs.Numbers.{task_limit, channel_limit, depth_limit, stamp_modulus}
@@ -188,6 +188,7 @@ module _ (w c : List ℕ) (t : Task) where
               (λ j a b. past j (λ e. omega arith)) (λ j a b. past j (λ e. omega arith)) refl
               ∙ stood_here (λ x. stood_task x st);
           plain = plain_set c i n (λ a. status_most st) (λ a b. absurd (omega arith)) (λ a b. absurd (omega arith));
+          whole = λ z. (z.0, length-set c i n ∙ z.1);
         }
 
     pub lapped_made : (d k : ℕ) → Made (state_in w c) (state_in w (slice_set c (80 + 6 * (t.0 % 16) + d % 6) k)) (λ s. task_lapped s t d k)
@@ -209,6 +210,7 @@ module _ (w c : List ℕ) (t : Task) where
               (λ j p q. past j (λ e. omega arith)) (λ j p q. past j (λ e. omega arith)) refl
               ∙ stood_here (λ x. lap_task x d k);
           plain = plain_set c a k (λ p. absurd (omega arith)) (λ p q. absurd (omega arith)) (λ p q. absurd (omega arith));
+          whole = λ z. (z.0, length-set c a k ∙ z.1);
         }
 
     module _ (lw : length w ≡ 33) where
@@ -226,6 +228,7 @@ module _ (w c : List ℕ) (t : Task) where
                 (λ j a b. past j (λ e. omega arith)) (λ j a b. past j (λ e. omega arith)) (wpast 32 (λ e. omega arith))
                 ∙ stood_here (λ x. went_task x r);
             plain = plain_set c i 0 (λ a. omega arith) (λ a b. omega arith) (λ a b. omega arith);
+            whole = λ z. (length-set w i r.0 ∙ z.0, length-set c i 0 ∙ z.1);
           }
 
       pub got_made : (v : ℕ) (b : Bool) (r : Row) → Made (state_in w c) (state_in (slice_set (slice_set w (t.0 % 16) r.0) (16 + t.0 % 16) v) (slice_set (slice_set c (t.0 % 16) (status_number Able)) (16 + t.0 % 16) (mark_no b))) (λ s. task_got s t v b r)
@@ -245,6 +248,7 @@ module _ (w c : List ℕ) (t : Task) where
                 (λ j a z. past j (λ e. omega arith) (λ e. omega arith)) (λ j a z. past j (λ e. omega arith) (λ e. omega arith)) (wpast 32 (λ e. omega arith) (λ e. omega arith))
                 ∙ stood_here (λ x. got_task x v b r);
             plain = λ z. q (p z);
+            whole = λ z. (length-set (slice_set w i r.0) (16 + i) v ∙ length-set w i r.0 ∙ z.0, length-set (slice_set c i 0) (16 + i) n ∙ length-set c i 0 ∙ z.1);
           }
 
 -- A CHANNEL'S RECORD, THE HALT RECORD, THE STAMP
@@ -275,6 +279,7 @@ chan_made w c lc k x =
         past 180 (λ e. omega arith) (λ e. omega arith),
       );
       plain = λ z. q (p z);
+      whole = λ z. (z.0, length-set (slice_set c (48 + i) n) (64 + i) m ∙ length-set c (48 + i) n ∙ z.1);
     }
 
 pub halt_made : (w c : List ℕ) → length c ≡ 181 → (f : ℕ) (t : Task) → Made (state_in w c) (state_in w (slice_set (slice_set c 177 f) 178 t.0)) (λ s. halted s f t)
@@ -297,6 +302,7 @@ halt_made w c lc f t =
         second2 c 177 f 178 n (omega arith),
       );
       plain = λ z. q (p z);
+      whole = λ z. (z.0, length-set (slice_set c 177 f) 178 n ∙ length-set c 177 f ∙ z.1);
     }
 
 pub counts_made : (w c : List ℕ) → length c ≡ 181 → (n m : ℕ) → Made (state_in w c) (state_in w (slice_set (slice_set c 179 n) 180 m)) (λ s. with_counts s n m)
@@ -318,6 +324,7 @@ counts_made w c lc n m =
         second2 c 179 n 180 m (omega arith),
       );
       plain = λ z. q (p z);
+      whole = λ z. (z.0, length-set (slice_set c 179 n) 180 m ∙ length-set c 179 n ∙ z.1);
     }
 
 pub tick_made : (w c : List ℕ) → length w ≡ 33 → (n : ℕ) → n ≡ (slice_index w 32 + 1) % stamp_modulus → Made (state_in w c) (state_in (slice_set w 32 n) c) (λ s. ticked s)
@@ -329,25 +336,26 @@ tick_made w c lw n e = record {
     e,
   );
   plain = λ z. z;
+  whole = λ z. (length-set w 32 n ∙ z.0, z.1);
 }
 
 -- ONE CHANGE BEHIND THE OTHER
 
 pub made_then : {x y z : State} {f g : Records → Records} → Made x y f → Made y z g → Made x z (λ s. g (f s))
-made_then {g = g} p q = record { same = q.same ∙ ap g p.same; plain = λ a. q.plain (p.plain a) }
+made_then {g = g} p q = record { same = q.same ∙ ap g p.same; plain = λ a. q.plain (p.plain a); whole = λ a. q.whole (p.whole a) }
 
 -- The same change by another word.
 pub made_as : {x y : State} {f : Records → Records} (g : Records → Records) → Made x y f → f (records_of x) ≡ g (records_of x) → Made x y g
-made_as g p e = record { same = p.same ∙ e; plain = p.plain }
+made_as g p e = record { same = p.same ∙ e; plain = p.plain; whole = p.whole }
 
 -- A turn whose changes are made, and its answer.
 pub made_turn : {x y : State} {f : Records → Records} (m : Moved) (e : Records → Event) (h : Records → Change) → Made x y f → m.event ≡ e (records_of x) → m.change ≡ h (records_of x)
     → MadeTurn x y m (λ s. record { event = e s; after = f s; change = h s })
-made_turn m e h p a b = record { same = rw (a, b, p.same); plain = p.plain }
+made_turn m e h p a b = record { same = rw (a, b, p.same); plain = p.plain; whole = p.whole }
 
 pub turn_as_lem : {x y : State} {m : Moved} {f : Records → Done} (g : Records → Done) → MadeTurn x y m f → f (records_of x) ≡ g (records_of x) → MadeTurn x y m g
-turn_as_lem g p e = record { same = p.same ∙ e; plain = p.plain }
+turn_as_lem g p e = record { same = p.same ∙ e; plain = p.plain; whole = p.whole }
 
 -- A turn whose last changes are a turn of their own.
 pub turn_then : {x y z : State} {m : Moved} {f : Records → Records} {g : Records → Done} → Made x y f → MadeTurn y z m g → MadeTurn x z m (λ s. g (f s))
-turn_then {g = g} p q = record { same = q.same ∙ ap g p.same; plain = λ a. q.plain (p.plain a) }
+turn_then {g = g} p q = record { same = q.same ∙ ap g p.same; plain = λ a. q.plain (p.plain a); whole = λ a. q.whole (p.whole a) }
