@@ -11,7 +11,7 @@ ghost use Rattle.machine_records.specs.Values.{changed};
 ghost use Rattle.machine_records.specs.View.{view};
 ghost use Rattle.machine_store.specs.Store.{records_of};
 ghost use Rattle.machine_fit.specs.Fitted.{fitting_in};
-ghost use Rattle.machine.specs.Public.{fresh_state, started_as, started, fresh_values, refused_turn, stepped_turn, turned_after, turned, Means};
+ghost use Rattle.machine.specs.Public.{no_state, fresh_state, started_as, started, fresh_values, refused_turn, stepped_turn, turned_after, turned, Means};
 
 use image_check::{ImageFault, check};
 use image_rows::Counts;
@@ -20,9 +20,7 @@ use image_rows::table::first_row_in;
 use machine_fit::fits;
 use machine_records::Change;
 use machine_step::step_in;
-use machine_store::{
-    STATE_CELLS, STATE_WORDS, State, cells_size, put_counts, task_went, words_size,
-};
+use machine_store::{STATE_CELLS, STATE_WORDS, State};
 use meaning::sizes::{CELLS, CHANS};
 use meaning::{Event, Task};
 
@@ -44,54 +42,39 @@ pub struct Turned {
     pub change: Change,
 }
 
+// A state with no task: all 0.
+fn no_state() -> State
+    ensures { result ≡ no_state }
+{
+    State {
+        words: [0u16; STATE_WORDS],
+        cells: [0u8; STATE_CELLS],
+    }
+}
+
 // The tasks at their first rows, all else 0.
 fn fresh(body: &[u8], k: Counts) -> State
     requires { k.tasks ≤ task_limit }
     ensures { result ≡ fresh_state body.now k }
 {
-    let n = k.tasks;
-    let mut words = [0u16; STATE_WORDS];
-    let mut cells = [0u8; STATE_CELLS];
-    put_counts(&words, &mut cells, n, k.channels);
-    let mut t: u8 = 0;
-    while t < n {
+    let mut state = no_state();
+    state.put_counts(k.tasks, k.channels);
+    for t in 0..k.tasks {
         let row = first_row_in(body, k.rows, k.channels, Task(t));
-        task_went(&mut words, &mut cells, Task(t), row);
-        t = t + 1;
+        state.went(Task(t), row);
     }
-    let _w = words_size(&words);
-    let _c = cells_size(&cells);
-    State {
-        words: words,
-        cells: cells,
-    }
+    state
 }
 
 fn start_as(body: &[u8], k: Counts, answer: Result<(), ImageFault>) -> Started
     requires { answer ≡ Ok tt → k.tasks ≤ task_limit }
     ensures { result ≡ started_as body.now k answer }
 {
-    match answer {
-        Ok(()) => {
-            let state = fresh(body, k);
-            Started {
-                answer: Ok(()),
-                state: state,
-            }
-        }
-        Err(fault) => {
-            let words = [0u16; STATE_WORDS];
-            let cells = [0u8; STATE_CELLS];
-            let state = State {
-                words: words,
-                cells: cells,
-            };
-            Started {
-                answer: Err(fault),
-                state: state,
-            }
-        }
-    }
+    let state = match answer {
+        Ok(()) => fresh(body, k),
+        Err(_) => no_state(),
+    };
+    Started { answer, state }
 }
 
 // A fresh start: the image check's refusal, or the machine at the beginning.
@@ -122,16 +105,14 @@ pub fn stored(
 fn refuse(s: State, number: u8) -> Turned
     ensures { result ≡ refused_turn s number }
 {
-    let event = Event::Refused(number);
-    let change = Change::Keep;
     Turned {
-        event: event,
+        event: Event::Refused(number),
         state: s,
-        change: change,
+        change: Change::Keep,
     }
 }
 
-// The turn of a state that fits: one copy in, one out.
+// The turn of a state that fits, made where it lies.
 fn step(
     body: &[u8],
     k: Counts,
@@ -143,17 +124,11 @@ fn step(
     requires { fitting_in body.now k s.words s.cells ≡ true }
     ensures { result ≡ stepped_turn body.now k.rows s values.now task choice }
 {
-    let mut words = s.words;
-    let m = step_in(body, k.rows, &mut words, &mut s.cells, values, task, choice);
-    let _w = words_size(&words);
-    let _c = cells_size(&s.cells);
-    s.words = words;
-    let event = m.event;
-    let change = m.change;
+    let m = step_in(body, k.rows, &mut s, values, task, choice);
     Turned {
-        event: event,
+        event: m.event,
         state: s,
-        change: change,
+        change: m.change,
     }
 }
 
@@ -169,15 +144,10 @@ fn turn_after(
 ) -> Turned
     ensures { result ≡ turned_after body.now k s values task choice answer }
 {
-    match answer {
-        Err(fault) => {
-            return refuse(s, fault.number());
-        }
-        Ok(()) => {}
+    if let Err(fault) = answer {
+        return refuse(s, fault.number());
     }
-    let words = s.words;
-    let cells = s.cells;
-    if fits(body, k, &words, &cells) {
+    if fits(body, k, &s) {
         return step(body, k, s, &values, task, choice);
     }
     refuse(s, UNFIT)

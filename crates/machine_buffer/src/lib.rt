@@ -14,8 +14,7 @@ use meaning::sizes::{CELLS, CHANS};
 pub fn oldest_in(values: &[[u16; CELLS as usize]; CHANS as usize], c: Chan) -> u16
     ensures { result ≡ oldest values.now c }
 {
-    let i = (c.0 % CHANS) as usize;
-    values[i][0]
+    values[(c.0 % CHANS) as usize][0]
 }
 
 // A value at a place of a row. A row without such a place stays as it is.
@@ -32,12 +31,10 @@ fn move_up(row: &mut [u16])
     ensures { row.new ≡ over (drop 1 row.old) (replicate (length row.old) 0) }
 {
     let size = row.len();
-    let mut i = 0;
-    while i + 1 < size {
-        row[i] = row[i + 1];
-        i = i + 1;
+    if 0 < size {
+        row.copy_within(1.., 0);
+        row[size - 1] = 0;
     }
-    append(row, i, 0);
 }
 
 // Zeros from this cell on.
@@ -45,18 +42,7 @@ fn clear(row: &mut [u16], from: usize)
     ensures { row.new ≡ over (take from row.old) (replicate (length row.old) 0) }
 {
     let size = row.len();
-    let mut i = from;
-    while i < size {
-        row[i] = 0;
-        i = i + 1;
-    }
-}
-
-// One fewer; none where there is none.
-fn one_fewer(n: usize) -> usize
-    ensures { result ≡ n - 1 }
-{
-    if n == 0 { 0 } else { n - 1 }
+    row[from.min(size)..].fill(0);
 }
 
 // A row of len values without the oldest, zeros behind the others.
@@ -64,19 +50,19 @@ pub fn shift(row: &mut [u16], len: usize)
     ensures { row.new ≡ shifted row.old len }
 {
     move_up(row);
-    clear(row, one_fewer(len));
+    clear(row, len.saturating_sub(1));
 }
 
 // A row of len values without the oldest, and behind the others one more.
 fn refill(row: &mut [u16], len: usize, v: u16)
     ensures { row.new ≡ set (shifted row.old len) (len - 1) v }
 {
-    let last = one_fewer(len);
     shift(row, len);
-    append(row, last, v);
+    append(row, len.saturating_sub(1), v);
 }
 
 // The values after a turn's change, where they lie.
+#[tactic(auto, using(crate::proofs::Rows::refill_law), unfolding(machine_records::specs::Values::changed))]
 pub fn store_in(values: &mut [[u16; CELLS as usize]; CHANS as usize], change: Change)
     ensures { values.new ≡ changed values.old change }
 {

@@ -7,8 +7,8 @@ pub use Rattle.meaning.specs.declared.Port.TheVariants.{Nil, On}
 pub use Rattle.meaning.specs.declared.Op.{Op}
 pub use Rattle.meaning.specs.declared.Op.TheVariants.{Send, Forward, Recv}
 pub use Rattle.machine_records.specs.declared.ChanState.{ChanState}
-pub use Rattle.machine_records.specs.declared.Found.{Found}
-pub use Rattle.machine_records.specs.declared.Found.TheVariants.{Nobody, At}
+pub use Rattle.machine_records.specs.declared.Waiter.{Waiter}
+pub use Rattle.machine_records.specs.declared.Fault.{Fault}
 pub use Rattle.machine_records.specs.declared.Side.TheVariants.{Receiving, Sending}
 pub use Rattle.machine_records.specs.declared.Plan.{Plan}
 pub use Rattle.machine_exchange.specs.declared.Exchange.{Exchange}

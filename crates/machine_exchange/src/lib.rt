@@ -7,25 +7,16 @@ ghost use Rattle.meaning.specs.Machine.{payload};
 ghost use Rattle.machine_exchange.specs.Kinds.{On};
 ghost use Rattle.machine_records.specs.Rules.{send_to, receive_from, sent_by, attempt, close_port};
 ghost use Rattle.machine_records.specs.Step.{or_wait};
-ghost use Rattle.machine_store.specs.Store.{records_in};
+ghost use Rattle.machine_store.specs.Store.{records_of};
 ghost use Rattle.machine_exchange.specs.Exchange.{exchange_of, exchanged, received_from};
 
 use image_rows::table::capacity_in;
 use machine_buffer::oldest_in;
-use machine_records::{Found, Plan, Side};
-use machine_store::{STATE_CELLS, STATE_WORDS, chan_at, task_at};
+use machine_records::{Fault, Offer, Plan, Side, Waiter};
+use machine_store::State;
 use machine_waiters::first_waiter;
 use meaning::sizes::{CELLS, CHANS};
-use meaning::{Chan, Op, Port, Row, Task};
-
-// The faults of a send on a closed channel, a close of nil, of a closed channel, and of one on which a task waits to send.
-const SEND_ON_CLOSED: u8 = 1;
-
-const CLOSE_OF_NIL: u8 = 2;
-
-const CLOSE_OF_CLOSED: u8 = 3;
-
-const CLOSE_UNDER_SENDER: u8 = 4;
+use meaning::{Chan, Op, Port, Row};
 
 // What an operation asks of its channel: to give a value, or to get one.
 #[derive(Clone, Copy)]
@@ -34,24 +25,16 @@ pub enum Exchange {
     Gets(Port),
 }
 
-fn send_on(
-    body: &[u8],
-    rows: u16,
-    words: &[u16; STATE_WORDS],
-    cells: &[u8; STATE_CELLS],
-    c: Chan,
-    v: u16,
-    next: Row,
-) -> Plan
-    ensures { result ≡ or_wait (send_to body.now rows (records_in words.now cells.now) (On c) v next) }
+#[tactic(auto, unfolding(machine_records::specs::Rules::send_to))]
+fn send_on(body: &[u8], rows: u16, state: &State, c: Chan, v: u16, next: Row) -> Plan
+    ensures { result ≡ or_wait (send_to body.now rows (records_of state.now) (On c) v next) }
 {
-    let k = chan_at(words, cells, c);
+    let k = state.channel(c);
     if k.closed {
-        return Plan::Fail(SEND_ON_CLOSED, Port::On(c));
+        return Plan::Fail(Fault::SendOnClosed, Port::On(c));
     }
-    let f = first_waiter(body, words, cells, Side::Receiving, c);
-    if let Found::At(w, _, on, _) = f {
-        return Plan::Hand(c, v, next, w, on);
+    if let Some(w) = first_waiter(body, state, Side::Receiving, c) {
+        return Plan::Hand(c, v, next, w.task, w.offer.hit);
     }
     if k.len < capacity_in(body, rows, c) {
         Plan::Append(c, v, next)
@@ -60,23 +43,17 @@ fn send_on(
     }
 }
 
-fn send_to(
-    body: &[u8],
-    rows: u16,
-    words: &[u16; STATE_WORDS],
-    cells: &[u8; STATE_CELLS],
-    p: Port,
-    v: u16,
-    next: Row,
-) -> Plan
-    ensures { result ≡ or_wait (send_to body.now rows (records_in words.now cells.now) p v next) }
+#[tactic(auto, unfolding(machine_records::specs::Rules::send_to))]
+fn send_to(body: &[u8], rows: u16, state: &State, p: Port, v: u16, next: Row) -> Plan
+    ensures { result ≡ or_wait (send_to body.now rows (records_of state.now) p v next) }
 {
     match p {
         Port::Nil => Plan::Wait,
-        Port::On(c) => send_on(body, rows, words, cells, c, v, next),
+        Port::On(c) => send_on(body, rows, state, c, v, next),
     }
 }
 
+#[tactic(auto, unfolding(meaning::specs::Machine::payload))]
 fn payload_of(o: Op, register: u16) -> u16
     ensures { result ≡ payload o register }
 {
@@ -88,51 +65,39 @@ fn payload_of(o: Op, register: u16) -> u16
 }
 
 // What a waiting sender sends by its operation.
-fn sent_by(words: &[u16; STATE_WORDS], cells: &[u8; STATE_CELLS], w: Task, o: Op) -> u16
-    ensures { result ≡ sent_by (records_in words.now cells.now) w o }
+fn sent_by(state: &State, w: Waiter) -> u16
+    ensures { result ≡ sent_by (records_of state.now) w }
 {
-    let y = task_at(words, cells, w);
-    payload_of(o, y.register)
+    payload_of(w.offer.op, state.task(w.task).register)
 }
 
-// A receive whose buffer holds so many values, v the oldest, and on whose channel this task waits to send.
-fn receive_from(
-    words: &[u16; STATE_WORDS],
-    cells: &[u8; STATE_CELLS],
-    c: Chan,
-    hit: Row,
-    v: u16,
-    len: u8,
-    w: Task,
-    o: Op,
-    on: Row,
-) -> Plan
-    ensures { result ≡ received_from (records_in words.now cells.now) c hit v len w o on }
+// A receive whose buffer holds so many values, v the oldest, and on whose channel w waits to send.
+fn receive_from(state: &State, c: Chan, hit: Row, v: u16, len: u8, w: Waiter) -> Plan
+    ensures { result ≡ received_from (records_of state.now) c hit v len w }
 {
-    let sent = sent_by(words, cells, w, o);
+    let sent = sent_by(state, w);
     if 0 < len {
-        Plan::Refill(c, v, hit, w, sent, on)
+        Plan::Refill(c, v, hit, w.task, sent, w.offer.hit)
     } else {
-        Plan::Receive(c, sent, hit, w, on)
+        Plan::Receive(c, sent, hit, w.task, w.offer.hit)
     }
 }
 
+#[tactic(auto, unfolding(machine_records::specs::Rules::receive_from))]
 fn receive_on(
     body: &[u8],
-    words: &[u16; STATE_WORDS],
-    cells: &[u8; STATE_CELLS],
+    state: &State,
     values: &[[u16; CELLS as usize]; CHANS as usize],
     c: Chan,
     hit: Row,
     miss: Row,
 ) -> Plan
-    ensures { result ≡ or_wait (receive_from body.now (records_in words.now cells.now) values.now (On c) hit miss) }
+    ensures { result ≡ or_wait (receive_from body.now (records_of state.now) values.now (On c) hit miss) }
 {
-    let k = chan_at(words, cells, c);
+    let k = state.channel(c);
     let v = oldest_in(values, c);
-    let f = first_waiter(body, words, cells, Side::Sending, c);
-    if let Found::At(w, o, on, _) = f {
-        return receive_from(words, cells, c, hit, v, k.len, w, o, on);
+    if let Some(w) = first_waiter(body, state, Side::Sending, c) {
+        return receive_from(state, c, hit, v, k.len, w);
     }
     if 0 < k.len {
         return Plan::Take(c, v, hit);
@@ -144,20 +109,20 @@ fn receive_on(
     }
 }
 
+#[tactic(auto, unfolding(machine_records::specs::Rules::receive_from))]
 fn receive_port(
     body: &[u8],
-    words: &[u16; STATE_WORDS],
-    cells: &[u8; STATE_CELLS],
+    state: &State,
     values: &[[u16; CELLS as usize]; CHANS as usize],
     p: Port,
     hit: Row,
     miss: Row,
 ) -> Plan
-    ensures { result ≡ or_wait (receive_from body.now (records_in words.now cells.now) values.now p hit miss) }
+    ensures { result ≡ or_wait (receive_from body.now (records_of state.now) values.now p hit miss) }
 {
     match p {
         Port::Nil => Plan::Wait,
-        Port::On(c) => receive_on(body, words, cells, values, c, hit, miss),
+        Port::On(c) => receive_on(body, state, values, c, hit, miss),
     }
 }
 
@@ -171,64 +136,46 @@ fn exchange_of(o: Op, register: u16) -> Exchange
     }
 }
 
-// The plan of one operation of a task with this register, which leads to `hit`, or to `miss` from a receive with ok off. There is
-// one place that sends, so that the compiler lays the rule into the turn.
+// The plan of what a task with this register is offered. There is one place that sends, so that the compiler lays the rule into the turn.
 pub fn operate(
     body: &[u8],
     rows: u16,
-    words: &[u16; STATE_WORDS],
-    cells: &[u8; STATE_CELLS],
+    state: &State,
     values: &[[u16; CELLS as usize]; CHANS as usize],
     register: u16,
-    o: Op,
-    hit: Row,
-    miss: Row,
+    offer: Offer,
 ) -> Plan
-    ensures { result ≡ or_wait (attempt body.now rows (records_in words.now cells.now) values.now register o hit miss) }
+    ensures { result ≡ or_wait (attempt body.now rows (records_of state.now) values.now register offer.op offer.hit offer.miss) }
 {
-    let e = exchange_of(o, register);
-    match e {
-        Exchange::Gives(p, v) => send_to(body, rows, words, cells, p, v, hit),
-        Exchange::Gets(p) => receive_port(body, words, cells, values, p, hit, miss),
+    match exchange_of(offer.op, register) {
+        Exchange::Gives(p, v) => send_to(body, rows, state, p, v, offer.hit),
+        Exchange::Gets(p) => receive_port(body, state, values, p, offer.hit, offer.miss),
     }
 }
 
-fn close_on(
-    body: &[u8],
-    words: &[u16; STATE_WORDS],
-    cells: &[u8; STATE_CELLS],
-    c: Chan,
-    next: Row,
-) -> Plan
-    ensures { result ≡ close_port body.now (records_in words.now cells.now) (On c) next }
+#[tactic(auto, unfolding(machine_records::specs::Rules::close_port))]
+fn close_on(body: &[u8], state: &State, c: Chan, next: Row) -> Plan
+    ensures { result ≡ close_port body.now (records_of state.now) (On c) next }
 {
-    let k = chan_at(words, cells, c);
-    if k.closed {
-        return Plan::Fail(CLOSE_OF_CLOSED, Port::On(c));
+    if state.channel(c).closed {
+        return Plan::Fail(Fault::CloseOfClosed, Port::On(c));
     }
-    let f = first_waiter(body, words, cells, Side::Receiving, c);
-    if let Found::At(_, _, _, _) = f {
+    if let Some(_) = first_waiter(body, state, Side::Receiving, c) {
         return Plan::Shut(c, next);
     }
-    let g = first_waiter(body, words, cells, Side::Sending, c);
-    match g {
-        Found::At(_, _, _, _) => Plan::Fail(CLOSE_UNDER_SENDER, Port::On(c)),
-        Found::Nobody => Plan::Shut(c, next),
+    match first_waiter(body, state, Side::Sending, c) {
+        Some(_) => Plan::Fail(Fault::CloseUnderSender, Port::On(c)),
+        None => Plan::Shut(c, next),
     }
 }
 
 // The plan of a close.
-pub fn close(
-    body: &[u8],
-    words: &[u16; STATE_WORDS],
-    cells: &[u8; STATE_CELLS],
-    p: Port,
-    next: Row,
-) -> Plan
-    ensures { result ≡ close_port body.now (records_in words.now cells.now) p next }
+#[tactic(auto, unfolding(machine_records::specs::Rules::close_port))]
+pub fn close(body: &[u8], state: &State, p: Port, next: Row) -> Plan
+    ensures { result ≡ close_port body.now (records_of state.now) p next }
 {
     match p {
-        Port::Nil => Plan::Fail(CLOSE_OF_NIL, Port::Nil),
-        Port::On(c) => close_on(body, words, cells, c, next),
+        Port::Nil => Plan::Fail(Fault::CloseOfNil, Port::Nil),
+        Port::On(c) => close_on(body, state, c, next),
     }
 }

@@ -22,7 +22,7 @@ pub use Rattle.machine_records.specs.declared.Change.TheVariants.{Keep, Append, 
 pub use Rattle.machine_records.specs.declared.Side.{Side}
 pub use Rattle.machine_records.specs.declared.Side.TheVariants.{Receiving, Sending}
 pub use Rattle.machine_records.specs.declared.Offer.{Offer}
-pub use Rattle.machine_records.specs.declared.Offer.TheVariants.{Nothing, By}
-pub use Rattle.machine_records.specs.declared.Found.{Found}
-pub use Rattle.machine_records.specs.declared.Found.TheVariants.{Nobody, At}
+pub use Rattle.machine_records.specs.declared.Waiter.{Waiter}
+pub use Rattle.machine_records.specs.declared.Fault.{Fault}
+pub use Rattle.machine_records.specs.declared.Refusal.{Refusal}
 pub use Rattle.machine_records.specs.declared.Plan.{Plan}

@@ -2,7 +2,7 @@
 // the stamp's tick. Every state and every plan is answered.
 #![tactic(auto)]
 
-ghost use Rattle.std.specs.Prelude.{◌≡◌, true, ◌-◌};
+ghost use Rattle.std.specs.Prelude.{true};
 ghost use Rattle.machine_records.specs.Records.{chan_in, task_got, task_went, chan_longer, chan_shorter, left};
 ghost use Rattle.machine_records.specs.Plans.{did, applied};
 ghost use Rattle.machine_store.specs.Store.{MadeTurn};
@@ -12,100 +12,51 @@ use machine_alone::{branch, drain, end, fail, lap, wait};
 use machine_order::leave;
 use machine_records::{ChanState, Change, Moved, Plan};
 use machine_shut::shut;
-use machine_store::{STATE_CELLS, STATE_WORDS, chan_at, put_chan, task_got, task_went, tick};
+use machine_store::State;
 use meaning::sizes::CELLS;
 use meaning::{Chan, Event, Row, Task};
 
 // The value v goes to the waiting receiver w, which goes on at `on`.
-fn hand(
-    words: &mut [u16; STATE_WORDS],
-    cells: &mut [u8; STATE_CELLS],
-    me: Task,
-    c: Chan,
-    v: u16,
-    next: Row,
-    w: Task,
-    on: Row,
-) -> Moved
-    ensures { MadeTurn words.old cells.old words.new cells.new result (λ s. did (Handed c v w) (left (task_got (task_went s me next) w v true on) w) Keep) }
+fn hand(state: &mut State, me: Task, c: Chan, v: u16, next: Row, w: Task, on: Row) -> Moved
+    ensures { MadeTurn state.old state.new result (λ s. did (Handed c v w) (left (task_got (task_went s me next) w v true on) w) Keep) }
 {
-    task_went(words, cells, me, next);
-    task_got(words, cells, w, v, true, on);
-    leave(words, cells, w);
-    tick(words, cells);
-    let event = Event::Handed(c, v, w);
-    let change = Change::Keep;
-    Moved {
-        event: event,
-        change: change,
-    }
+    state.went(me, next);
+    state.got(w, v, true, on);
+    leave(state, w);
+    state.done(Event::Handed(c, v, w), Change::Keep)
 }
 
 // The value v goes into the buffer of c.
-fn append(
-    words: &mut [u16; STATE_WORDS],
-    cells: &mut [u8; STATE_CELLS],
-    me: Task,
-    c: Chan,
-    v: u16,
-    next: Row,
-) -> Moved
-    ensures { MadeTurn words.old cells.old words.new cells.new result (λ s. did (Appended c v) (task_went (chan_longer s c) me next) (Append c (chan_in s.chans c).len v)) }
+fn append(state: &mut State, me: Task, c: Chan, v: u16, next: Row) -> Moved
+    ensures { MadeTurn state.old state.new result (λ s. did (Appended c v) (task_went (chan_longer s c) me next) (Append c (chan_in s.chans c).len v)) }
 {
-    let k = chan_at(words, cells, c);
+    let k = state.channel(c);
     let longer = ChanState {
         closed: k.closed,
         len: k.len % CELLS + 1,
     };
-    put_chan(words, cells, c, longer);
-    task_went(words, cells, me, next);
-    tick(words, cells);
-    let event = Event::Appended(c, v);
-    let change = Change::Append(c, k.len, v);
-    Moved {
-        event: event,
-        change: change,
-    }
-}
-
-// One less, or none where there is none.
-fn one_less(n: u8) -> u8
-    ensures { result ≡ n - 1 }
-{
-    if 0 < n { n - 1 } else { 0 }
+    state.put_channel(c, longer);
+    state.went(me, next);
+    state.done(Event::Appended(c, v), Change::Append(c, k.len, v))
 }
 
 // The oldest value v comes from the buffer of c.
-fn take(
-    words: &mut [u16; STATE_WORDS],
-    cells: &mut [u8; STATE_CELLS],
-    me: Task,
-    c: Chan,
-    v: u16,
-    hit: Row,
-) -> Moved
-    ensures { MadeTurn words.old cells.old words.new cells.new result (λ s. did (Taken c v) (task_got (chan_shorter s c) me v true hit) (Take c (chan_in s.chans c).len)) }
+fn take(state: &mut State, me: Task, c: Chan, v: u16, hit: Row) -> Moved
+    ensures { MadeTurn state.old state.new result (λ s. did (Taken c v) (task_got (chan_shorter s c) me v true hit) (Take c (chan_in s.chans c).len)) }
 {
-    let k = chan_at(words, cells, c);
+    let k = state.channel(c);
     let shorter = ChanState {
         closed: k.closed,
-        len: one_less(k.len),
+        len: k.len.saturating_sub(1),
     };
-    put_chan(words, cells, c, shorter);
-    task_got(words, cells, me, v, true, hit);
-    tick(words, cells);
-    let event = Event::Taken(c, v);
-    let change = Change::Take(c, k.len);
-    Moved {
-        event: event,
-        change: change,
-    }
+    state.put_channel(c, shorter);
+    state.got(me, v, true, hit);
+    state.done(Event::Taken(c, v), Change::Take(c, k.len))
 }
 
 // The same, and the waiting sender w, whose value takes the place behind the youngest, goes on at `on`.
 fn refill(
-    words: &mut [u16; STATE_WORDS],
-    cells: &mut [u8; STATE_CELLS],
+    state: &mut State,
     me: Task,
     c: Chan,
     v: u16,
@@ -114,68 +65,42 @@ fn refill(
     sent: u16,
     on: Row,
 ) -> Moved
-    ensures { MadeTurn words.old cells.old words.new cells.new result (λ s. did (Refilled c v w) (left (task_went (task_got s me v true hit) w on) w) (Refill c (chan_in s.chans c).len sent)) }
+    ensures { MadeTurn state.old state.new result (λ s. did (Refilled c v w) (left (task_went (task_got s me v true hit) w on) w) (Refill c (chan_in s.chans c).len sent)) }
 {
-    let k = chan_at(words, cells, c);
-    task_got(words, cells, me, v, true, hit);
-    task_went(words, cells, w, on);
-    leave(words, cells, w);
-    tick(words, cells);
-    let event = Event::Refilled(c, v, w);
-    let change = Change::Refill(c, k.len, sent);
-    Moved {
-        event: event,
-        change: change,
-    }
+    let k = state.channel(c);
+    state.got(me, v, true, hit);
+    state.went(w, on);
+    leave(state, w);
+    state.done(Event::Refilled(c, v, w), Change::Refill(c, k.len, sent))
 }
 
 // The value v comes from the waiting sender w, which goes on at `on`.
-fn receive(
-    words: &mut [u16; STATE_WORDS],
-    cells: &mut [u8; STATE_CELLS],
-    me: Task,
-    c: Chan,
-    v: u16,
-    hit: Row,
-    w: Task,
-    on: Row,
-) -> Moved
-    ensures { MadeTurn words.old cells.old words.new cells.new result (λ s. did (Received c v w) (left (task_went (task_got s me v true hit) w on) w) Keep) }
+fn receive(state: &mut State, me: Task, c: Chan, v: u16, hit: Row, w: Task, on: Row) -> Moved
+    ensures { MadeTurn state.old state.new result (λ s. did (Received c v w) (left (task_went (task_got s me v true hit) w on) w) Keep) }
 {
-    task_got(words, cells, me, v, true, hit);
-    task_went(words, cells, w, on);
-    leave(words, cells, w);
-    tick(words, cells);
-    let event = Event::Received(c, v, w);
-    let change = Change::Keep;
-    Moved {
-        event: event,
-        change: change,
-    }
+    state.got(me, v, true, hit);
+    state.went(w, on);
+    leave(state, w);
+    state.done(Event::Received(c, v, w), Change::Keep)
 }
 
 // The turn of `me` that a plan describes.
-pub fn apply(
-    body: &[u8],
-    words: &mut [u16; STATE_WORDS],
-    cells: &mut [u8; STATE_CELLS],
-    me: Task,
-    p: Plan,
-) -> Moved
-    ensures { MadeTurn words.old cells.old words.new cells.new result (λ s. applied body.now s me p) }
+#[tactic(auto, unfolding(machine_records::specs::Plans::applied))]
+pub fn apply(body: &[u8], state: &mut State, me: Task, p: Plan) -> Moved
+    ensures { MadeTurn state.old state.new result (λ s. applied body.now s me p) }
 {
     match p {
-        Plan::Fail(f, q) => fail(words, cells, me, f, q),
-        Plan::Wait => wait(words, cells, me),
-        Plan::Branch(r) => branch(words, cells, me, r),
-        Plan::Lap(d, k, r) => lap(words, cells, me, d, k, r),
-        Plan::End => end(words, cells, me),
-        Plan::Hand(c, v, r, w, on) => hand(words, cells, me, c, v, r, w, on),
-        Plan::Append(c, v, r) => append(words, cells, me, c, v, r),
-        Plan::Take(c, v, r) => take(words, cells, me, c, v, r),
-        Plan::Refill(c, v, r, w, sent, on) => refill(words, cells, me, c, v, r, w, sent, on),
-        Plan::Receive(c, v, r, w, on) => receive(words, cells, me, c, v, r, w, on),
-        Plan::Drain(c, r) => drain(words, cells, me, c, r),
-        Plan::Shut(c, r) => shut(body, words, cells, me, c, r),
+        Plan::Fail(f, q) => fail(state, me, f, q),
+        Plan::Wait => wait(state, me),
+        Plan::Branch(r) => branch(state, me, r),
+        Plan::Lap(d, k, r) => lap(state, me, d, k, r),
+        Plan::End => end(state, me),
+        Plan::Hand(c, v, r, w, on) => hand(state, me, c, v, r, w, on),
+        Plan::Append(c, v, r) => append(state, me, c, v, r),
+        Plan::Take(c, v, r) => take(state, me, c, v, r),
+        Plan::Refill(c, v, r, w, sent, on) => refill(state, me, c, v, r, w, sent, on),
+        Plan::Receive(c, v, r, w, on) => receive(state, me, c, v, r, w, on),
+        Plan::Drain(c, r) => drain(state, me, c, r),
+        Plan::Shut(c, r) => shut(body, state, me, c, r),
     }
 }

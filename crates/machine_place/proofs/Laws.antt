@@ -1,17 +1,14 @@
--- What a row's op and a task's mark tell. Assumes nothing.
+-- What a row's op tells. Assumes nothing.
 use mathlib.Core.Path.{◌≡◌, refl, sym}
-use mathlib.Core.Bool.{Bool, true, false, cond, not, ◌&&◌, and-true}
+use mathlib.Core.Bool.{Bool, true, false, cond, not}
 use Prim.Native.Nat.{ℕ, ◌<◌}
 use native.Mathlib.Omega.{arith}
 use borrow.Author.Tests.{ne_eqb, le-ltb}
 use lib.Dec.{eqb, ltb}
-use Rattle.machine_place.specs.Kinds.{Fields, Row, Wait, Go, Statement, Status, Able, Waiting, Ended}
+use Rattle.machine_place.specs.Kinds.{Fields, Row, Wait, Go}
 use Rattle.meaning.specs.Bytes.{fields, statement_of}
 use Rattle.meaning.specs.Laws.Ops.{beyond, by_op}
-use Rattle.meaning_laws.specs.Fits.{mark}
-use Rattle.machine_records.specs.Fitting.{no_default, can_wait, place_fits}
-
--- WHAT AN OP TELLS
+use Rattle.machine_records.specs.Fitting.{no_default, can_wait}
 
 -- As the code asks it: ops 1 to 3, 5, and 8 without default.
 abbrev pub op_waits : ℕ → ℕ → Bool
@@ -30,15 +27,3 @@ op_waits_lem f =
     by_op (λ n. can_wait (statement_of (fields n f.chan f.arg f.next f.other)) ≡ op_waits n f.arg)
     refl refl refl refl refl refl refl refl (no_default_lem (eqb f.arg 1) (record { 0 = f.next })) refl refl refl refl
     (λ n. sym (past_ops (beyond n) f.arg (omega arith))) f.op
-
--- WHAT A MARK TELLS
-
-pub place_marked : (x : Status) (s : Statement) → mark x ≡ 1 → place_fits x s ≡ can_wait s
-place_marked Able s e = cc
-place_marked Waiting s e = refl
-place_marked Ended s e = cc
-
-pub place_unmarked : (x : Status) (s : Statement) (n : ℕ) → (mark x ≡ 1 → ⊥) → (eqb n (mark x) && place_fits x s) ≡ eqb n 0
-place_unmarked Able s n d = and-true (eqb n 0)
-place_unmarked Waiting s n d = absurd (d refl)
-place_unmarked Ended s n d = and-true (eqb n 0)

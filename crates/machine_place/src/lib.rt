@@ -5,7 +5,6 @@ ghost use Rattle.std.specs.Prelude.{◌≡◌};
 ghost use Rattle.machine_records.specs.Fitting.{can_wait};
 ghost use Rattle.machine_place.specs.Places.{place_named, record_named};
 ghost use Rattle.meaning.specs.Bytes.{rows_in};
-ghost use Rattle.meaning_laws.specs.Fits.{mark};
 
 use image_row::is_target;
 use image_rows::table::fields_of_row;
@@ -14,6 +13,7 @@ use meaning::{Row, Status};
 
 // Whether the operation of a row can wait. Its op tells, so that no statement is made of it: send, forward and recv are 1 to 3,
 // range is 5, and a select, 8, waits unless it has a default.
+#[tactic(auto, using(crate::proofs::Laws::op_waits_lem), unfolding(meaning::specs::Bytes::rows_in))]
 fn can_wait(body: &[u8], row: Row) -> bool
     ensures { result ≡ can_wait (rows_in body.now row) }
 {
@@ -27,38 +27,19 @@ fn can_wait(body: &[u8], row: Row) -> bool
     f.op == 5
 }
 
-// How often a task should stand in the order.
-fn mark_of(status: Status) -> u8
-    ensures { result ≡ mark status }
-{
-    match status {
-        Status::Able => 0,
-        Status::Waiting => 1,
-        Status::Ended => 0,
-    }
-}
-
 // Whether a task of this status, at this row and so often named, stands in the order as it should.
 fn place_fits(body: &[u8], row: Row, status: Status, named: u8) -> bool
     ensures { result ≡ place_named body.now row status named }
 {
-    if mark_of(status) == 1 {
-        if named == 1 {
-            return can_wait(body, row);
-        }
-        return false;
+    match status {
+        Status::Waiting => named == 1 && can_wait(body, row),
+        Status::Able | Status::Ended => named == 0,
     }
-    named == 0
 }
 
 // Whether a task that stands as x and is so often named fits.
 pub fn task_fits(body: &[u8], rows: u16, x: TaskState, named: u8) -> bool
     ensures { result ≡ record_named body.now rows x named }
 {
-    let row = x.row;
-    let status = x.status;
-    if is_target(body, rows, row) {
-        return place_fits(body, row, status, named);
-    }
-    false
+    is_target(body, rows, x.row) && place_fits(body, x.row, x.status, named)
 }

@@ -1,8 +1,8 @@
 -- What a plan does: the event, the records after the turn, and what becomes of the values. A plan is decided before anything is
 -- changed (Rules, Step); here it is carried out, one change behind the other.
-use Rattle.std.specs.Prelude.{Bool, true, false, not, List, [], ◌∷◌, ℕ, ◌%◌, set}
-use Rattle.machine_records.specs.Kinds.{Task, Chan, Waiting, Ended, Event, Appended, Handed, Taken, Refilled, Received, Drained, Closed, Waits, Branched, Finished, Faulted, Refused, TaskState, Change, Keep, Append, Take, Refill, Receiving, Offer, Nothing, By, Plan}
-use Rattle.meaning.specs.Numbers.{task_limit}
+use Rattle.std.specs.Prelude.{Bool, true, false, not, Option, Some, None, List, [], ◌∷◌, ℕ, ◌%◌, set}
+use Rattle.machine_records.specs.Kinds.{Task, Chan, Waiting, Ended, Event, Appended, Handed, Taken, Refilled, Received, Drained, Closed, Waits, Branched, Finished, Faulted, Refused, TaskState, Change, Keep, Append, Take, Refill, Receiving, Offer, Fault, Plan}
+use Rattle.meaning.specs.Numbers.{task_limit, send_on_closed, close_of_nil, close_of_closed, close_under_sender}
 use Rattle.machine_records.specs.Cells.{keep}
 use Rattle.machine_records.specs.Records.{Records, task_in, chan_in, order_of, got_task, with_tasks, halted, ticked, task_got, task_went, task_stood, task_lapped, chan_longer, chan_shorter, chan_shut, ordered, joined, left}
 use Rattle.machine_records.specs.Waiters.{is_offer, waits_at, count_waiters}
@@ -12,6 +12,12 @@ pub record Done : Type 0 where
   pub event : Event
   pub after : Records
   pub change : Change
+
+abbrev pub fault_number : Fault → ℕ
+fault_number Fault.SendOnClosed = send_on_closed
+fault_number Fault.CloseOfNil = close_of_nil
+fault_number Fault.CloseOfClosed = close_of_closed
+fault_number Fault.CloseUnderSender = close_under_sender
 
 -- "The stamp .. rises by one at each turn not refused"
 abbrev pub did : Event → Records → Change → Done
@@ -27,9 +33,9 @@ module _ (rs : List ℕ) (s : Records) (c : Chan) where
   abbrev pub idle : Task → Bool
   idle t = not (is_offer (waits_at rs s Receiving c t))
 
-  abbrev pub woken_by : Task → Offer → List TaskState → List TaskState
-  woken_by t Nothing xs = xs
-  woken_by t (By o h miss) xs = set xs (t.0 % task_limit) (got_task (task_in xs t) 0 false miss)
+  abbrev pub woken_by : Task → Option Offer → List TaskState → List TaskState
+  woken_by t None xs = xs
+  woken_by t (Some g) xs = set xs (t.0 % task_limit) (got_task (task_in xs t) 0 false g.miss)
 
   -- "all such tasks wake in order with 0, ok off"
   unfoldable pub woken_tasks : List Task → List TaskState → List TaskState
@@ -44,7 +50,7 @@ module _ (rs : List ℕ) (s : Records) (c : Chan) where
 module _ (rs : List ℕ) (s : Records) (me : Task) where
   unfoldable pub applied : Plan → Done
   -- "Faults change nothing but the halt record (fault number, task named: the mover) and the stamp."
-  applied (Plan.Fail f p) = did (Faulted p f me) (halted s f me) Keep
+  applied (Plan.Fail f p) = did (Faulted p (fault_number f) me) (halted s (fault_number f) me) Keep
   applied Plan.Wait = did Waits (joined (task_stood s me Waiting) me) Keep
   applied (Plan.Branch r) = did Branched (task_went s me r) Keep
   applied (Plan.Lap d k r) = did Branched (task_went (task_lapped s me d k) me r) Keep

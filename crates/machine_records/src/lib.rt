@@ -1,6 +1,10 @@
-// The kinds that the machine's parts speak of, and in specs/ what a turn does, said over the records that a state reads as. There is
-// no code here: the parts above hold the state in cells, read and change it there, and promise what these definitions say.
+// The kinds that the machine's parts speak of, and in specs/ what a turn does, said over the records that a state reads as. There are
+// but two conversions of code here: the parts above hold the state in cells, read and change it there, and promise what these definitions say.
 #![tactic(auto)]
+
+ghost use Rattle.std.specs.Prelude.{◌≡◌};
+ghost use Rattle.machine_records.specs.Plans.{fault_number};
+ghost use Rattle.machine_records.specs.Step.{refusal_number};
 
 use meaning::sizes::DEPTH;
 use meaning::{Chan, Event, Op, Port, Row, Status, Task};
@@ -39,18 +43,41 @@ pub enum Side {
     Sending,
 }
 
-// An operation and the rows to which it leads: the second after a receive with ok off.
+// An operation and the rows to which it leads: to `miss` after a receive with ok off.
 #[derive(Clone, Copy)]
-pub enum Offer {
-    Nothing,
-    By(Op, Row, Row),
+pub struct Offer {
+    pub op: Op,
+    pub hit: Row,
+    pub miss: Row,
 }
 
-// The first task that waits, with the operation by which it would be woken.
+// A task that waits, with the operation by which it would be woken.
 #[derive(Clone, Copy)]
-pub enum Found {
-    Nobody,
-    At(Task, Op, Row, Row),
+pub struct Waiter {
+    pub task: Task,
+    pub offer: Offer,
+}
+
+// Why a turn stops the machine: a send on a closed channel, a close of nil, of a closed channel, or of one on which a task waits to send.
+#[derive(Clone, Copy)]
+pub enum Fault {
+    SendOnClosed,
+    CloseOfNil,
+    CloseOfClosed,
+    CloseUnderSender,
+}
+
+impl From<Fault> for u8 {
+    ghost from_gives = { λ fault n. n ≡ fault_number fault };
+
+    fn from(fault: Fault) -> u8 {
+        match fault {
+            Fault::SendOnClosed => 1,
+            Fault::CloseOfNil => 2,
+            Fault::CloseOfClosed => 3,
+            Fault::CloseUnderSender => 4,
+        }
+    }
 }
 
 // What a turn is to do, decided before anything is changed. In this order: a value is followed by the row at which the mover goes
@@ -61,7 +88,7 @@ pub enum Found {
 //     Shut: close, and wake all that wait to receive
 #[derive(Clone, Copy)]
 pub enum Plan {
-    Fail(u8, Port),
+    Fail(Fault, Port),
     Wait,
     Branch(Row),
     Lap(u8, u8, Row),
@@ -80,4 +107,27 @@ pub enum Plan {
 pub struct Moved {
     pub event: Event,
     pub change: Change,
+}
+
+// Why a turn is not made, behind the image's check and the state's: a machine that has halted, a number that is no task's, a task that
+// waits or has ended.
+#[derive(Clone, Copy)]
+pub enum Refusal {
+    Halted,
+    NoSuchTask,
+    IsWaiting,
+    HasEnded,
+}
+
+impl From<Refusal> for u8 {
+    ghost from_gives = { λ refusal n. n ≡ refusal_number refusal };
+
+    fn from(refusal: Refusal) -> u8 {
+        match refusal {
+            Refusal::Halted => 13,
+            Refusal::NoSuchTask => 14,
+            Refusal::IsWaiting => 15,
+            Refusal::HasEnded => 16,
+        }
+    }
 }

@@ -1,5 +1,6 @@
 -- What a case row offers, by its op; one lap of each walk over the case rows, and the clauses of a table that a count picks.
 use mathlib.Core.Path.{◌≡◌, refl, sym, ap, ◌∙◌}
+use Rattle.std.specs.Prelude.{Option, None}
 use mathlib.Core.Bool.{Bool, true, false}
 use mathlib.Core.List.{List, [], ◌∷◌}
 use Prim.Native.Nat.{ℕ, zero, suc, ◌+◌, ◌-◌, ◌%◌, ◌<◌}
@@ -8,20 +9,19 @@ use lib.ListN.{length, get_or}
 use Rattle.meaning.specs.declared.Fields.{Fields}
 use Rattle.meaning.specs.declared.Op.TheVariants.{Send, Forward, Recv}
 use Rattle.machine_records.specs.declared.Offer.{Offer}
-use Rattle.machine_records.specs.declared.Offer.TheVariants.{Nothing, By}
 use Rattle.meaning.specs.Image.{row_no}
 use Rattle.meaning.specs.Laws.Ops.{by_op}
 use Rattle.meaning.specs.Bytes.{fields, port_of, statement_of, fields_of_row, rows_in, tabulate}
 use Rattle.machine_records.specs.Cells.{keep}
 use Rattle.machine_records.specs.Records.{Records}
-use Rattle.machine_records.specs.Waiters.{case_offer, one}
+use Rattle.machine_records.specs.Waiters.{offers, case_offer, one}
 use Rattle.machine_records.specs.Rules.{chosen_of}
 
-abbrev offer_by : Fields → ℕ → Offer
+abbrev offer_by : Fields → ℕ → Option Offer
 offer_by f op =
     let p = port_of f.chan in
     let next = row_no f.next in
-    get_or (Nothing ∷ Nothing ∷ Nothing ∷ Nothing ∷ Nothing ∷ Nothing ∷ Nothing ∷ Nothing ∷ Nothing ∷ By (Send p f.arg) next next ∷ By (Forward p) next next ∷ By (Recv p) next next ∷ []) op Nothing
+    get_or (None ∷ None ∷ None ∷ None ∷ None ∷ None ∷ None ∷ None ∷ None ∷ offers (Send p f.arg) next next ∷ offers (Forward p) next next ∷ offers (Recv p) next next ∷ []) op None
 
 module _ (rs : List ℕ) (n : ℕ) (f : Fields) (ef : f ≡ fields_of_row rs (row_no n)) where
   offer_is : offer_by f f.op ≡ case_offer (rows_in rs (row_no n))
@@ -34,8 +34,8 @@ module _ (rs : List ℕ) (n : ℕ) (f : Fields) (ef : f ≡ fields_of_row rs (ro
   pub offer_at : (op : ℕ) → f.op ≡ op → offer_by f op ≡ case_offer (rows_in rs (row_no n))
   offer_at op e = ap (offer_by f) (sym e) ∙ offer_is
 
-  pub offer_none : (f.op ≡ 9 → ⊥) → (f.op ≡ 10 → ⊥) → (f.op ≡ 11 → ⊥) → Nothing ≡ case_offer (rows_in rs (row_no n))
-  offer_none x y z = by_op (λ m. (m ≡ 9 → ⊥) → (m ≡ 10 → ⊥) → (m ≡ 11 → ⊥) → Nothing ≡ offer_by f m)
+  pub offer_none : (f.op ≡ 9 → ⊥) → (f.op ≡ 10 → ⊥) → (f.op ≡ 11 → ⊥) → None ≡ case_offer (rows_in rs (row_no n))
+  offer_none x y z = by_op (λ m. (m ≡ 9 → ⊥) → (m ≡ 10 → ⊥) → (m ≡ 11 → ⊥) → None ≡ offer_by f m)
       (λ u v w. refl) (λ u v w. refl) (λ u v w. refl) (λ u v w. refl) (λ u v w. refl) (λ u v w. refl) (λ u v w. refl) (λ u v w. refl) (λ u v w. refl)
       (λ u v w. absurd (u refl)) (λ u v w. absurd (v refl)) (λ u v w. absurd (w refl)) (λ u v w. refl) (λ m u v w. refl) f.op x y z ∙ offer_is
 
@@ -70,6 +70,6 @@ module _ (rs : List ℕ) (rows : ℕ) (s : Records) (choice : ℕ) where
   chosen_some [] h = absurd (h refl)
   chosen_some (n ∷ ns) h = refl
 
-  pub chosen_none : (ns : List ℕ) → length ns ≡ 0 → chosen_of rs rows s ns choice ≡ Nothing
+  pub chosen_none : (ns : List ℕ) → length ns ≡ 0 → chosen_of rs rows s ns choice ≡ None
   chosen_none [] h = refl
   chosen_none (n ∷ ns) h = absurd (omega arith)

@@ -8,5 +8,4 @@ pub use Rattle.machine_records.specs.declared.ChanState.{ChanState}
 pub use Rattle.machine_records.specs.declared.Change.TheVariants.{Keep}
 pub use Rattle.machine_records.specs.declared.Side.TheVariants.{Receiving}
 pub use Rattle.machine_records.specs.declared.Offer.{Offer}
-pub use Rattle.machine_records.specs.declared.Offer.TheVariants.{Nothing, By}
-pub use Rattle.machine_waiters.specs.declared.Miss.{Miss}
+pub use Rattle.machine_store.specs.declared.State.{State}

@@ -7,6 +7,6 @@ pub use Rattle.meaning.specs.declared.Statement.{Statement}
 pub use Rattle.meaning.specs.declared.Status.{Status}
 pub use Rattle.machine_records.specs.declared.TaskState.{TaskState}
 pub use Rattle.machine_records.specs.declared.Offer.{Offer}
-pub use Rattle.machine_records.specs.declared.Offer.TheVariants.{By}
 pub use Rattle.machine_records.specs.declared.Plan.{Plan}
 pub use Rattle.machine_records.specs.declared.Moved.{Moved}
+pub use Rattle.machine_records.specs.declared.Refusal.{Refusal}

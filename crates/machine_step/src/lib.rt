@@ -7,57 +7,34 @@ ghost use Rattle.std.specs.Prelude.{◌≡◌, ◌+◌, if◌then◌else◌};
 ghost use Rattle.machine_records.specs.Records.{task_in};
 ghost use Rattle.machine_records.specs.Step.{repeated, no_case, offer_of, plan_alone, plan_by, plan_of, refusal_of, refused_by, stepped};
 ghost use Rattle.machine_step.specs.Kinds.{Plan};
-ghost use Rattle.machine_store.specs.Store.{records_in, MadeTurn};
+ghost use Rattle.machine_store.specs.Store.{records_of, MadeTurn};
 
 use image_rows::table::statement_at;
 use machine_exchange::{close, operate};
 use machine_moves::apply;
-use machine_records::{Change, Moved, Offer, Plan};
+use machine_records::{Change, Moved, Offer, Plan, Refusal};
 use machine_select::chosen_case;
-use machine_store::{STATE_CELLS, STATE_WORDS, fault_in, lap_at, task_at, taskcount_in};
+use machine_store::State;
 use meaning::sizes::{CELLS, CHANS};
 use meaning::{Event, Op, Otherwise, Row, Statement, Status, Task};
 
-// The refusals of a turn: "13 machine halted, 14 no such task, 16 ended, 15 waiting".
-const HALTED: u8 = 13;
-
-const NO_SUCH_TASK: u8 = 14;
-
-const IS_WAITING: u8 = 15;
-
-const HAS_ENDED: u8 = 16;
-
 // A lap is begun while fewer than n are; otherwise the laps are forgotten.
-fn repeat(
-    words: &[u16; STATE_WORDS],
-    cells: &[u8; STATE_CELLS],
-    me: Task,
-    d: u8,
-    n: u16,
-    first: Row,
-    after: Row,
-) -> Plan
-    ensures { result ≡ repeated (task_in (records_in words.now cells.now).tasks me) d n first after }
+#[tactic(auto, unfolding(machine_records::specs::Step::repeated))]
+fn repeat(state: &State, me: Task, d: u8, n: u16, first: Row, after: Row) -> Plan
+    ensures { result ≡ repeated (task_in (records_of state.now).tasks me) d n first after }
 {
-    let lap = lap_at(words, cells, me, d);
+    let lap = state.lap(me, d);
     if (lap as u16) < n {
-        Plan::Lap(d, std::num::wrapping_add_u8(lap, 1), first)
+        Plan::Lap(d, lap.wrapping_add(1), first)
     } else {
         Plan::Lap(d, 0, after)
     }
 }
 
-fn ifok(
-    words: &[u16; STATE_WORDS],
-    cells: &[u8; STATE_CELLS],
-    me: Task,
-    first: Row,
-    second: Row,
-) -> Plan
-    ensures { result ≡ Plan.Branch (if (task_in (records_in words.now cells.now).tasks me).ok then first else second) }
+fn ifok(state: &State, me: Task, first: Row, second: Row) -> Plan
+    ensures { result ≡ Plan.Branch (if (task_in (records_of state.now).tasks me).ok then first else second) }
 {
-    let x = task_at(words, cells, me);
-    if x.ok {
+    if state.task(me).ok {
         Plan::Branch(first)
     } else {
         Plan::Branch(second)
@@ -78,46 +55,39 @@ fn no_case(e: Otherwise) -> Plan
 fn offer_of(
     body: &[u8],
     rows: u16,
-    words: &[u16; STATE_WORDS],
-    cells: &[u8; STATE_CELLS],
+    state: &State,
     row: Row,
     statement: Statement,
     choice: u8,
-) -> Offer
-    ensures { result ≡ offer_of body.now rows (records_in words.now cells.now) (row.0 + 1) choice statement }
+) -> Option<Offer>
+    ensures { result ≡ offer_of body.now rows (records_of state.now) (row.0 + 1) choice statement }
 {
     match statement {
-        Statement::Do(o, n) => Offer::By(o, n, n),
-        Statement::Close(_, _) => Offer::Nothing,
-        Statement::Range(p, n, a) => Offer::By(Op::Recv(p), n, a),
-        Statement::Repeat(_, _, _, _) => Offer::Nothing,
-        Statement::Ifok(_, _) => Offer::Nothing,
-        Statement::Select(k, _) => chosen_case(body, rows, words, cells, k, row, choice),
-        Statement::Case(_, _) => Offer::Nothing,
-        Statement::Stop => Offer::Nothing,
+        Statement::Do(op, n) => Some(Offer {
+            op,
+            hit: n,
+            miss: n,
+        }),
+        Statement::Range(p, n, a) => Some(Offer {
+            op: Op::Recv(p),
+            hit: n,
+            miss: a,
+        }),
+        Statement::Select(k, _) => chosen_case(body, rows, state, k, row, choice),
+        _ => None,
     }
 }
 
 // The plan of a statement that comes to no operation.
-fn plan_alone(
-    body: &[u8],
-    rows: u16,
-    words: &[u16; STATE_WORDS],
-    cells: &[u8; STATE_CELLS],
-    me: Task,
-    statement: Statement,
-) -> Plan
-    ensures { result ≡ plan_alone body.now rows (records_in words.now cells.now) (task_in (records_in words.now cells.now).tasks me) statement }
+fn plan_alone(body: &[u8], rows: u16, state: &State, me: Task, statement: Statement) -> Plan
+    ensures { result ≡ plan_alone body.now rows (records_of state.now) (task_in (records_of state.now).tasks me) statement }
 {
     match statement {
-        Statement::Do(_, _) => Plan::End,
-        Statement::Close(p, n) => close(body, words, cells, p, n),
-        Statement::Range(_, _, _) => Plan::End,
-        Statement::Repeat(d, k, n, a) => repeat(words, cells, me, d, k, n, a),
-        Statement::Ifok(n, a) => ifok(words, cells, me, n, a),
+        Statement::Close(p, n) => close(body, state, p, n),
+        Statement::Repeat(d, k, n, a) => repeat(state, me, d, k, n, a),
+        Statement::Ifok(n, a) => ifok(state, me, n, a),
         Statement::Select(_, e) => no_case(e),
-        Statement::Case(_, _) => Plan::End,
-        Statement::Stop => Plan::End,
+        _ => Plan::End,
     }
 }
 
@@ -125,92 +95,82 @@ fn plan_alone(
 fn plan_by(
     body: &[u8],
     rows: u16,
-    words: &[u16; STATE_WORDS],
-    cells: &[u8; STATE_CELLS],
+    state: &State,
     values: &[[u16; CELLS as usize]; CHANS as usize],
     me: Task,
     statement: Statement,
-    f: Offer,
+    f: Option<Offer>,
 ) -> Plan
-    ensures { result ≡ plan_by body.now rows (records_in words.now cells.now) values.now (task_in (records_in words.now cells.now).tasks me) statement f }
+    ensures { result ≡ plan_by body.now rows (records_of state.now) values.now (task_in (records_of state.now).tasks me) statement f }
 {
     match f {
-        Offer::Nothing => plan_alone(body, rows, words, cells, me, statement),
-        Offer::By(o, hit, miss) => {
-            let x = task_at(words, cells, me);
-            operate(body, rows, words, cells, values, x.register, o, hit, miss)
-        }
+        None => plan_alone(body, rows, state, me, statement),
+        Some(offer) => operate(body, rows, state, values, state.task(me).register, offer),
     }
 }
 
 // The plan of the mover, with a choice.
+#[tactic(auto, unfolding(machine_records::specs::Step::plan_of))]
 fn plan_of(
     body: &[u8],
     rows: u16,
-    words: &[u16; STATE_WORDS],
-    cells: &[u8; STATE_CELLS],
+    state: &State,
     values: &[[u16; CELLS as usize]; CHANS as usize],
     me: Task,
     choice: u8,
 ) -> Plan
-    ensures { result ≡ plan_of body.now rows (records_in words.now cells.now) values.now (task_in (records_in words.now cells.now).tasks me) choice }
+    ensures { result ≡ plan_of body.now rows (records_of state.now) values.now (task_in (records_of state.now).tasks me) choice }
 {
-    let x = task_at(words, cells, me);
-    let row = x.row;
+    let row = state.task(me).row;
     let statement = statement_at(body, row);
-    let f = offer_of(body, rows, words, cells, row, statement, choice);
-    plan_by(body, rows, words, cells, values, me, statement, f)
+    let f = offer_of(body, rows, state, row, statement, choice);
+    plan_by(body, rows, state, values, me, statement, f)
 }
 
-fn refusal_of(status: Status) -> u8
+fn refusal_of(status: Status) -> Option<Refusal>
     ensures { result ≡ refusal_of status }
 {
     match status {
-        Status::Able => 0,
-        Status::Waiting => IS_WAITING,
-        Status::Ended => HAS_ENDED,
+        Status::Able => None,
+        Status::Waiting => Some(Refusal::IsWaiting),
+        Status::Ended => Some(Refusal::HasEnded),
     }
 }
 
-// The number by which a turn of task t is refused, or 0.
-fn refused_by(fault: u8, taskcount: u8, t: Task, status: Status) -> u8
+// Why a turn of task t is refused, if it is.
+#[tactic(auto, unfolding(machine_records::specs::Step::refused_by))]
+fn refused_by(fault: u8, taskcount: u8, t: Task, status: Status) -> Option<Refusal>
     ensures { result ≡ refused_by fault taskcount t status }
 {
     if fault == 0 {
         if t.0 < taskcount {
             return refusal_of(status);
         }
-        return NO_SUCH_TASK;
+        return Some(Refusal::NoSuchTask);
     }
-    HALTED
+    Some(Refusal::Halted)
 }
 
 // One turn of task me with a choice: its event and what it does to the values, the state changed where it lies. A refused turn leaves
 // every cell as it stood.
+#[tactic(auto, unfolding(machine_records::specs::Step::stepped))]
 pub fn step_in(
     body: &[u8],
     rows: u16,
-    words: &mut [u16; STATE_WORDS],
-    cells: &mut [u8; STATE_CELLS],
+    state: &mut State,
     values: &[[u16; CELLS as usize]; CHANS as usize],
     me: Task,
     choice: u8,
 ) -> Moved
-    ensures { MadeTurn words.old cells.old words.new cells.new result (λ s. stepped body.now rows s values.now me choice) }
+    ensures { MadeTurn state.old state.new result (λ s. stepped body.now rows s values.now me choice) }
 {
-    let x = task_at(words, cells, me);
-    let fault = fault_in(words, cells);
-    let count = taskcount_in(words, cells);
-    let status = x.status;
-    let number = refused_by(fault, count, me, status);
-    if number != 0 {
-        let event = Event::Refused(number);
-        let change = Change::Keep;
+    let status = state.task(me).status;
+    if let Some(refusal) = refused_by(state.fault(), state.task_count(), me, status) {
         return Moved {
-            event: event,
-            change: change,
+            event: Event::Refused(u8::from(refusal)),
+            change: Change::Keep,
         };
     }
-    let p = plan_of(body, rows, words, cells, values, me, choice);
-    apply(body, words, cells, me, p)
+    let p = plan_of(body, rows, state, values, me, choice);
+    apply(body, state, me, p)
 }

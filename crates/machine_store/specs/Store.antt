@@ -1,21 +1,14 @@
 -- The records that the two arrays of a state read as, and what a change of the arrays makes of them. The places stand here alone.
-use Rattle.std.specs.Prelude.{◌≡◌, ℕ, ◌+◌, ◌*◌, ◌<◌, ◌≤◌, Bool, true, false, cond, not, List, [], ◌∷◌, ◌++◌, map, ◌==◌, slice_index}
-use Rattle.machine_store.specs.Kinds.{Task, Row, Status, Able, Waiting, Ended, TaskState, ChanState, Moved, State}
+use Rattle.std.specs.Prelude.{◌≡◌, ℕ, ◌+◌, ◌*◌, ◌<◌, ◌≤◌, Bool, true, false, not, List, [], ◌∷◌, ◌++◌, map, ◌==◌, slice_index, length}
+use Rattle.machine_store.specs.Kinds.{Task, Row, TaskState, ChanState, Moved, State}
 use Rattle.meaning.specs.Numbers.{task_limit, channel_limit, depth_limit}
+use Rattle.meaning.specs.Statuses.{status_number, status_of}
 use Rattle.meaning.specs.Image.{row_no, task_no}
 use Rattle.meaning.specs.Bytes.{tabulate}
 use Rattle.machine_records.specs.Records.{Records, task_in}
 use Rattle.machine_records.specs.Plans.{Done}
 
--- NUMBERS: a status 0 to 2, a mark 0 or 1
-
-abbrev pub status_of : ℕ → Status
-status_of n = cond (n == 0) Able (cond (n == 1) Waiting Ended)
-
-abbrev pub status_no : Status → ℕ
-status_no Able = 0
-status_no Waiting = 1
-status_no Ended = 2
+-- A MARK: 0 or 1
 
 abbrev pub mark_of : ℕ → Bool
 mark_of n = not (n == 0)
@@ -94,6 +87,10 @@ records_in w c = record {
 abbrev pub records_of : State → Records
 records_of s = records_in s.words s.cells
 
+-- The state in two arrays.
+abbrev pub state_in : List ℕ → List ℕ → State
+state_in w c = record { words = w; cells = c }
+
 -- THE ARRAYS OF RECORDS, part by part: what stands in each place
 
 abbrev pub all_laps : List TaskState → List ℕ
@@ -108,7 +105,7 @@ words_of s =
 
 unfoldable pub cells_of : Records → List ℕ
 cells_of s =
-    map (λ x. status_no x.status) s.tasks
+    map (λ x. status_number x.status) s.tasks
     ++ map (λ x. mark_no x.ok) s.tasks
     ++ map (λ t. t.0) s.order
     ++ map (λ k. mark_no k.closed) s.chans
@@ -126,15 +123,21 @@ pub record Plain (c : List ℕ) : Type 0 where
   pub oks : (t : ℕ) → t < task_limit → slice_index c (ok_place + t) ≤ 1
   pub closeds : (k : ℕ) → k < channel_limit → slice_index c (closed_place + k) ≤ 1
 
--- A CHANGE: the arrays w, c became w', c', which read as f of what they read as before, and stay plain.
-pub record Made (w c w' c' : List ℕ) (f : Records → Records) : Type 0 where
-  pub same : records_in w' c' ≡ f (records_in w c)
-  pub plain : Plain c → Plain c'
+-- The arrays have a state's lengths.
+abbrev pub Whole : State → Type 0
+Whole x = (length x.words ≡ 33) × (length x.cells ≡ 181)
+
+-- A CHANGE: the state x became y, whose records are f of those of x, and stays plain and of its lengths.
+pub record Made (x y : State) (f : Records → Records) : Type 0 where
+  pub same : records_of y ≡ f (records_of x)
+  pub plain : Plain x.cells → Plain y.cells
+  pub whole : Whole x → Whole y
 
 -- The same of a turn, which answers m besides.
-abbrev pub done_in : List ℕ → List ℕ → Moved → Done
-done_in w c m = record { event = m.event; after = records_in w c; change = m.change }
+abbrev pub done_in : State → Moved → Done
+done_in x m = record { event = m.event; after = records_of x; change = m.change }
 
-pub record MadeTurn (w c w' c' : List ℕ) (m : Moved) (f : Records → Done) : Type 0 where
-  pub same : done_in w' c' m ≡ f (records_in w c)
-  pub plain : Plain c → Plain c'
+pub record MadeTurn (x y : State) (m : Moved) (f : Records → Done) : Type 0 where
+  pub same : done_in y m ≡ f (records_of x)
+  pub plain : Plain x.cells → Plain y.cells
+  pub whole : Whole x → Whole y

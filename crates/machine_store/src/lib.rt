@@ -7,11 +7,12 @@ ghost use Rattle.std.specs.Prelude.{◌≡◌, ◌%◌, length, slice_index_or};
 ghost use Rattle.meaning.specs.Image.{task_no};
 ghost use Rattle.meaning.specs.Numbers.{task_limit};
 ghost use Rattle.machine_records.specs.Records.{task_in, chan_in, lap_of, halted, ticked, with_counts, with_chan, task_got, task_went, task_stood, task_lapped};
-ghost use Rattle.machine_store.specs.Store.{status_of, status_no, mark_of, mark_no, records_in, RowIn, Made};
+ghost use Rattle.machine_records.specs.Plans.{did};
+ghost use Rattle.machine_store.specs.Store.{records_of, RowIn, Made, MadeTurn};
 
-use machine_records::{ChanState, TaskState};
+use machine_records::{ChanState, Change, Moved, TaskState};
 use meaning::sizes::{CHANS, DEPTH, TASKS};
-use meaning::{Chan, Row, Status, Task};
+use meaning::{Chan, Event, Row, Status, Task};
 
 // Of `words`: each task's row, then each task's register, then the stamp.
 pub const REGISTER: usize = TASKS as usize;
@@ -51,267 +52,175 @@ pub struct State {
     pub cells: [u8; STATE_CELLS],
 }
 
-fn status_of(n: u8) -> Status
-    ensures { result ≡ status_of n }
-{
-    match n {
-        0 => Status::Able,
-        1 => Status::Waiting,
-        _ => Status::Ended,
-    }
-}
-
-fn status_no(s: Status) -> u8
-    ensures { result ≡ status_no s }
-{
-    match s {
-        Status::Able => 0,
-        Status::Waiting => 1,
-        Status::Ended => 2,
-    }
-}
-
-fn mark_of(n: u8) -> bool
-    ensures { result ≡ mark_of n }
-{
-    n != 0
-}
-
-fn mark_no(b: bool) -> u8
-    ensures { result ≡ mark_no b }
-{
-    if b { 1 } else { 0 }
-}
-
-// HOW LONG THE ARRAYS ARE: a call says so, which compiles to nothing.
-
-fn words_long(a: [u16; STATE_WORDS]) -> bool
-    ensures { length a ≡ 33 }
-{
-    true
-}
-
-fn cells_long(a: [u8; STATE_CELLS]) -> bool
-    ensures { length a ≡ 181 }
-{
-    true
-}
-
-pub fn words_size(words: &[u16; STATE_WORDS]) -> bool
-    ensures { length words.now ≡ 33 }
-{
-    let all = *words;
-    words_long(all)
-}
-
-pub fn cells_size(cells: &[u8; STATE_CELLS]) -> bool
-    ensures { length cells.now ≡ 181 }
-{
-    let all = *cells;
-    cells_long(all)
-}
-
 // READING
 
-pub fn task_at(words: &[u16; STATE_WORDS], cells: &[u8; STATE_CELLS], t: Task) -> TaskState
-    ensures { result ≡ task_in (records_in words.now cells.now).tasks t }
-{
-    let i = (t.0 % TASKS) as usize;
-    let status = status_of(cells[i]);
-    let ok = mark_of(cells[OK + i]);
-    let register = words[REGISTER + i];
-    let row = Row(words[i]);
-    let k = LAP + (DEPTH as usize) * i;
-    let laps = [
-        cells[k],
-        cells[k + 1],
-        cells[k + 2],
-        cells[k + 3],
-        cells[k + 4],
-        cells[k + 5],
-    ];
-    TaskState {
-        status: status,
-        ok: ok,
-        register: register,
-        row: row,
-        laps: laps,
-    }
-}
-
 // The row of task t, by the words alone.
-pub fn row_at(words: &[u16; STATE_WORDS], t: Task) -> Row
+pub fn row_in(words: &[u16; STATE_WORDS], t: Task) -> Row
     ensures { RowIn words.now t result }
 {
-    let i = (t.0 % TASKS) as usize;
-    Row(words[i])
+    Row(words[(t.0 % TASKS) as usize])
 }
 
-// The laps that task t has begun in the repeat at depth d.
-pub fn lap_at(words: &[u16; STATE_WORDS], cells: &[u8; STATE_CELLS], t: Task, d: u8) -> u8
-    ensures { result ≡ lap_of (task_in (records_in words.now cells.now).tasks t) d }
-{
-    let i = (t.0 % TASKS) as usize;
-    let k = (d % DEPTH) as usize;
-    cells[LAP + (DEPTH as usize) * i + k]
-}
-
-pub fn chan_at(words: &[u16; STATE_WORDS], cells: &[u8; STATE_CELLS], c: Chan) -> ChanState
-    ensures { result ≡ chan_in (records_in words.now cells.now).chans c }
-{
-    let i = (c.0 % CHANS) as usize;
-    let closed = mark_of(cells[CLOSED + i]);
-    ChanState {
-        closed: closed,
-        len: cells[LENGTH + i],
+#[tactic(auto, unfolding(crate::specs::Store::records_in))]
+impl State {
+    pub fn task(&self, t: Task) -> TaskState
+        ensures { result ≡ task_in (records_of self.now).tasks t }
+    {
+        let i = (t.0 % TASKS) as usize;
+        let k = LAP + (DEPTH as usize) * i;
+        TaskState {
+            status: Status::from(self.cells[i]),
+            ok: self.cells[OK + i] != 0,
+            register: self.words[REGISTER + i],
+            row: Row(self.words[i]),
+            laps: [
+                self.cells[k],
+                self.cells[k + 1],
+                self.cells[k + 2],
+                self.cells[k + 3],
+                self.cells[k + 4],
+                self.cells[k + 5],
+            ],
+        }
     }
-}
 
-// The task at place i of the order.
-pub fn name_at(words: &[u16; STATE_WORDS], cells: &[u8; STATE_CELLS], i: u8) -> Task
-    ensures { result ≡ slice_index_or (records_in words.now cells.now).order (i % task_limit) (task_no 0) }
-{
-    let k = (i % TASKS) as usize;
-    Task(cells[ORDER + k])
-}
+    // The laps that task t has begun in the repeat at depth d.
+    pub fn lap(&self, t: Task, d: u8) -> u8
+        ensures { result ≡ lap_of (task_in (records_of self.now).tasks t) d }
+    {
+        let i = (t.0 % TASKS) as usize;
+        let k = (d % DEPTH) as usize;
+        self.cells[LAP + (DEPTH as usize) * i + k]
+    }
 
-pub fn waiting_in(words: &[u16; STATE_WORDS], cells: &[u8; STATE_CELLS]) -> u8
-    ensures { result ≡ (records_in words.now cells.now).waiting }
-{
-    cells[WAITING]
-}
+    pub fn channel(&self, c: Chan) -> ChanState
+        ensures { result ≡ chan_in (records_of self.now).chans c }
+    {
+        let i = (c.0 % CHANS) as usize;
+        ChanState {
+            closed: self.cells[CLOSED + i] != 0,
+            len: self.cells[LENGTH + i],
+        }
+    }
 
-pub fn fault_in(words: &[u16; STATE_WORDS], cells: &[u8; STATE_CELLS]) -> u8
-    ensures { result ≡ (records_in words.now cells.now).fault }
-{
-    cells[FAULT]
-}
+    // The task at place i of the order.
+    pub fn name(&self, i: u8) -> Task
+        ensures { result ≡ slice_index_or (records_of self.now).order (i % task_limit) (task_no 0) }
+    {
+        Task(self.cells[ORDER + (i % TASKS) as usize])
+    }
 
-pub fn named_in(words: &[u16; STATE_WORDS], cells: &[u8; STATE_CELLS]) -> Task
-    ensures { result ≡ (records_in words.now cells.now).named }
-{
-    Task(cells[NAMED])
-}
+    pub fn waiting(&self) -> u8
+        ensures { result ≡ (records_of self.now).waiting }
+    {
+        self.cells[WAITING]
+    }
 
-pub fn taskcount_in(words: &[u16; STATE_WORDS], cells: &[u8; STATE_CELLS]) -> u8
-    ensures { result ≡ (records_in words.now cells.now).taskcount }
-{
-    cells[TASK_COUNT]
-}
+    pub fn fault(&self) -> u8
+        ensures { result ≡ (records_of self.now).fault }
+    {
+        self.cells[FAULT]
+    }
 
-pub fn chancount_in(words: &[u16; STATE_WORDS], cells: &[u8; STATE_CELLS]) -> u8
-    ensures { result ≡ (records_in words.now cells.now).chancount }
-{
-    cells[CHAN_COUNT]
-}
+    pub fn named(&self) -> Task
+        ensures { result ≡ (records_of self.now).named }
+    {
+        Task(self.cells[NAMED])
+    }
 
-pub fn stamp_in(words: &[u16; STATE_WORDS], cells: &[u8; STATE_CELLS]) -> u16
-    ensures { result ≡ (records_in words.now cells.now).stamp }
-{
-    words[STAMP]
+    pub fn task_count(&self) -> u8
+        ensures { result ≡ (records_of self.now).taskcount }
+    {
+        self.cells[TASK_COUNT]
+    }
+
+    pub fn channel_count(&self) -> u8
+        ensures { result ≡ (records_of self.now).chancount }
+    {
+        self.cells[CHAN_COUNT]
+    }
+
+    pub fn stamp(&self) -> u16
+        ensures { result ≡ (records_of self.now).stamp }
+    {
+        self.words[STAMP]
+    }
 }
 
 // CHANGING
 
-// The task has received v, with this mark, and moves on.
-pub fn task_got(
-    words: &mut [u16; STATE_WORDS],
-    cells: &mut [u8; STATE_CELLS],
-    t: Task,
-    v: u16,
-    ok: bool,
-    row: Row,
-)
-    ensures { Made words.old cells.old words.new cells.new (λ s. task_got s t v ok row) }
-{
-    let _w = words_size(words);
-    let _c = cells_size(cells);
-    let i = (t.0 % TASKS) as usize;
-    words[i] = row.0;
-    words[REGISTER + i] = v;
-    cells[i] = status_no(Status::Able);
-    cells[OK + i] = mark_no(ok);
-}
+impl State {
+    // The task has received v, with this mark, and moves on.
+    pub fn got(&mut self, t: Task, v: u16, ok: bool, row: Row)
+        ensures { Made self.old self.new (λ s. task_got s t v ok row) }
+    {
+        let i = (t.0 % TASKS) as usize;
+        self.words[i] = row.0;
+        self.words[REGISTER + i] = v;
+        self.cells[i] = u8::from(Status::Able);
+        self.cells[OK + i] = u8::from(ok);
+    }
 
-// The task moves on, its register and mark kept.
-pub fn task_went(words: &mut [u16; STATE_WORDS], cells: &mut [u8; STATE_CELLS], t: Task, row: Row)
-    ensures { Made words.old cells.old words.new cells.new (λ s. task_went s t row) }
-{
-    let _w = words_size(words);
-    let _c = cells_size(cells);
-    let i = (t.0 % TASKS) as usize;
-    words[i] = row.0;
-    cells[i] = status_no(Status::Able);
-}
+    // The task moves on, its register and mark kept.
+    pub fn went(&mut self, t: Task, row: Row)
+        ensures { Made self.old self.new (λ s. task_went s t row) }
+    {
+        let i = (t.0 % TASKS) as usize;
+        self.words[i] = row.0;
+        self.cells[i] = u8::from(Status::Able);
+    }
 
-// The task stays where it is, with another status.
-pub fn task_stood(
-    words: &[u16; STATE_WORDS],
-    cells: &mut [u8; STATE_CELLS],
-    t: Task,
-    status: Status,
-)
-    ensures { Made words.now cells.old words.now cells.new (λ s. task_stood s t status) }
-{
-    let _c = cells_size(cells);
-    let i = (t.0 % TASKS) as usize;
-    cells[i] = status_no(status);
-}
+    // The task stays where it is, with another status.
+    pub fn stood(&mut self, t: Task, status: Status)
+        ensures { Made self.old self.new (λ s. task_stood s t status) }
+    {
+        self.cells[(t.0 % TASKS) as usize] = u8::from(status);
+    }
 
-// So many laps are begun in the repeat at depth d.
-pub fn task_lapped(
-    words: &[u16; STATE_WORDS],
-    cells: &mut [u8; STATE_CELLS],
-    t: Task,
-    d: u8,
-    lap: u8,
-)
-    ensures { Made words.now cells.old words.now cells.new (λ s. task_lapped s t d lap) }
-{
-    let _c = cells_size(cells);
-    let i = (t.0 % TASKS) as usize;
-    let k = (d % DEPTH) as usize;
-    cells[LAP + (DEPTH as usize) * i + k] = lap;
-}
+    // So many laps are begun in the repeat at depth d.
+    pub fn lapped(&mut self, t: Task, d: u8, laps: u8)
+        ensures { Made self.old self.new (λ s. task_lapped s t d laps) }
+    {
+        let i = (t.0 % TASKS) as usize;
+        let k = (d % DEPTH) as usize;
+        self.cells[LAP + (DEPTH as usize) * i + k] = laps;
+    }
 
-pub fn put_chan(words: &[u16; STATE_WORDS], cells: &mut [u8; STATE_CELLS], c: Chan, x: ChanState)
-    ensures { Made words.now cells.old words.now cells.new (λ s. with_chan s c x) }
-{
-    let _c = cells_size(cells);
-    let i = (c.0 % CHANS) as usize;
-    let closed = x.closed;
-    cells[CLOSED + i] = mark_no(closed);
-    cells[LENGTH + i] = x.len;
-}
+    pub fn put_channel(&mut self, c: Chan, x: ChanState)
+        ensures { Made self.old self.new (λ s. with_chan s c x) }
+    {
+        let i = (c.0 % CHANS) as usize;
+        self.cells[CLOSED + i] = u8::from(x.closed);
+        self.cells[LENGTH + i] = x.len;
+    }
 
-// The halt record.
-pub fn halt(words: &[u16; STATE_WORDS], cells: &mut [u8; STATE_CELLS], fault: u8, t: Task)
-    ensures { Made words.now cells.old words.now cells.new (λ s. halted s fault t) }
-{
-    let _c = cells_size(cells);
-    cells[FAULT] = fault;
-    cells[NAMED] = t.0;
-}
+    // The halt record.
+    pub fn halt(&mut self, fault: u8, t: Task)
+        ensures { Made self.old self.new (λ s. halted s fault t) }
+    {
+        self.cells[FAULT] = fault;
+        self.cells[NAMED] = t.0;
+    }
 
-// The image's counts of tasks and channels.
-pub fn put_counts(
-    words: &[u16; STATE_WORDS],
-    cells: &mut [u8; STATE_CELLS],
-    tasks: u8,
-    channels: u8,
-)
-    ensures { Made words.now cells.old words.now cells.new (λ s. with_counts s tasks channels) }
-{
-    let _c = cells_size(cells);
-    cells[TASK_COUNT] = tasks;
-    cells[CHAN_COUNT] = channels;
-}
+    // The image's counts of tasks and channels.
+    pub fn put_counts(&mut self, tasks: u8, channels: u8)
+        ensures { Made self.old self.new (λ s. with_counts s tasks channels) }
+    {
+        self.cells[TASK_COUNT] = tasks;
+        self.cells[CHAN_COUNT] = channels;
+    }
 
-// "65,535 is followed by 0."
-pub fn tick(words: &mut [u16; STATE_WORDS], cells: &[u8; STATE_CELLS])
-    ensures { Made words.old cells.now words.new cells.now (λ s. ticked s) }
-{
-    let _w = words_size(words);
-    let n = words[STAMP];
-    words[STAMP] = std::num::wrapping_add_u16(n, 1);
+    // "65,535 is followed by 0."
+    pub fn tick(&mut self)
+        ensures { Made self.old self.new (λ s. ticked s) }
+    {
+        self.words[STAMP] = self.words[STAMP].wrapping_add(1);
+    }
+    // The turn is done: the stamp rises, and this is what it answers.
+    pub fn done(&mut self, event: Event, change: Change) -> Moved
+        ensures { MadeTurn self.old self.new result (λ s. did event s change) }
+    {
+        self.tick();
+        Moved { event, change }
+    }
 }

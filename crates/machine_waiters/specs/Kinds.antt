@@ -9,9 +9,5 @@ pub use Rattle.meaning.specs.declared.Statement.TheVariants.{Do, Close, Range, R
 pub use Rattle.machine_records.specs.declared.Side.{Side}
 pub use Rattle.machine_records.specs.declared.Side.TheVariants.{Receiving, Sending}
 pub use Rattle.machine_records.specs.declared.Offer.{Offer}
-pub use Rattle.machine_records.specs.declared.Offer.TheVariants.{Nothing, By}
-pub use Rattle.machine_records.specs.declared.Found.{Found}
-pub use Rattle.machine_records.specs.declared.Found.TheVariants.{Nobody, At}
+pub use Rattle.machine_records.specs.declared.Waiter.{Waiter}
 pub use Rattle.machine_waiters.specs.declared.Head.{Head}
-pub use Rattle.machine_waiters.specs.declared.Served.{Served}
-pub use Rattle.machine_waiters.specs.declared.Miss.{Miss}

@@ -2,6 +2,7 @@
 pub mod Kinds
 pub mod Numbers
 pub mod Events
+pub mod Statuses
 pub mod Machine
 pub mod Text
 pub mod Image

@@ -6,6 +6,7 @@
 ghost use Rattle.std.specs.Prelude.{◌≡◌};
 ghost use Rattle.meaning.specs.Bytes.{port_of};
 ghost use Rattle.meaning.specs.Events.{port_number};
+ghost use Rattle.meaning.specs.Statuses.{status_number, status_of};
 
 pub mod sizes;
 
@@ -68,12 +69,37 @@ pub struct Fields {
     pub other: u16,
 }
 
-// The three states of a task that a listing prints as 0, 1, 2.
+// The three states of a task that a listing prints as 0, 1, 2, and a state's cells hold so.
 #[derive(Clone, Copy)]
 pub enum Status {
     Able,
     Waiting,
     Ended,
+}
+
+impl From<Status> for u8 {
+    ghost from_gives = { λ status n. n ≡ status_number status };
+
+    fn from(status: Status) -> u8 {
+        match status {
+            Status::Able => 0,
+            Status::Waiting => 1,
+            Status::Ended => 2,
+        }
+    }
+}
+
+// A number over 2 reads as 2 does.
+impl From<u8> for Status {
+    ghost from_gives = { λ n status. status ≡ status_of n };
+
+    fn from(number: u8) -> Status {
+        match number {
+            0 => Status::Able,
+            1 => Status::Waiting,
+            _ => Status::Ended,
+        }
+    }
 }
 
 // What a turn reports. specs/Events.antt gives document 01's four numbers for each.

@@ -17,7 +17,7 @@ use Rattle.machine_records.specs.Records.{Records}
 use Rattle.machine_records.specs.Values.{Values}
 use Rattle.machine_records.specs.Plans.{Done}
 use Rattle.machine_records.specs.Step.{stepped}
-use Rattle.machine_store.specs.Store.{records_in, Plain, done_in, MadeTurn}
+use Rattle.machine_store.specs.Store.{records_of, state_in, Plain, done_in, MadeTurn}
 use Rattle.machine_store.specs.Laws.Again.{words_again, cells_again}
 use Rattle.machine_fit.specs.Fitted.{fitting_in}
 use Rattle.machine_fit.specs.Laws.Plain.{fitting_parts}
@@ -26,29 +26,26 @@ use Rattle.machine.specs.Laws.Meant.{turned_step}
 
 -- ONE STORE FOR ONE STATE
 
-module _ (w c : List ℕ) (lw : length w ≡ 33) (lc : length c ≡ 181) (p : Plain c) where
-  abbrev held : State
-  held = record { words = w; cells = c }
-
-  pub state_again : (s : Records) → records_in w c ≡ s → held ≡ state_of s
-  state_again s e = sym (ap₂ (λ w c. record { words = w; cells = c }) (words_again w c lw) (cells_again w c lc p)) ∙ ap state_of e
+module _ (x : State) (lw : length x.words ≡ 33) (lc : length x.cells ≡ 181) (p : Plain x.cells) where
+  pub state_again : (s : Records) → records_of x ≡ s → x ≡ state_of s
+  state_again s e = sym (ap₂ state_in (words_again x.words x.cells lw) (cells_again x.words x.cells lc p)) ∙ ap state_of e
 
   -- A turn in place, told cell by cell.
-  pub turn_told : (m : Moved) (d : Done) → done_in w c m ≡ d → record { event = m.event; state = held; change = m.change } ≡ turned_as d
-  turn_told m d e = ap (λ s. record { event = m.event; state = s; change = m.change }) (state_again (records_in w c) refl) ∙ ap turned_as e
+  pub turn_told : (m : Moved) (d : Done) → done_in x m ≡ d → record { event = m.event; state = x; change = m.change } ≡ turned_as d
+  turn_told m d e = ap (λ s. record { event = m.event; state = s; change = m.change }) (state_again (records_of x) refl) ∙ ap turned_as e
 
 -- The same of a whole turn, on an image that passes the check and for a state that fits it.
-abbrev pub told_turn : List ℕ → List ℕ → Moved → Turned
-told_turn w c m = record { event = m.event; state = record { words = w; cells = c }; change = m.change }
+abbrev pub told_turn : State → Moved → Turned
+told_turn x m = record { event = m.event; state = x; change = m.change }
 
 module _ (bs : List ℕ) (s : State) (b : Values) (t : Task) (choice : ℕ) (good : checked bs ≡ Ok tt)
     (fit : fitting_in (body_of bs) (counts_of bs) s.words s.cells ≡ true) where
-  pub turned_in_place : (w c : List ℕ) → length w ≡ 33 → length c ≡ 181 → (m : Moved)
-      → MadeTurn s.words s.cells w c m (λ z. stepped (body_of bs) (counts_of bs).rows z b t choice) → turned bs s b t choice ≡ told_turn w c m
+  pub turned_in_place : (y : State) → length y.words ≡ 33 → length y.cells ≡ 181 → (m : Moved)
+      → MadeTurn s y m (λ z. stepped (body_of bs) (counts_of bs).rows z b t choice) → turned bs s b t choice ≡ told_turn y m
   unfolding counts_of counts_in row_count
-  turned_in_place w c lw lc m e =
+  turned_in_place y lw lc m e =
       let p = e.plain (fitting_parts (body_of bs) (counts_of bs) s.words s.cells fit).0 in
-      turned_step bs s b t choice good fit ∙ sym (turn_told w c lw lc p m _ e.same)
+      turned_step bs s b t choice good fit ∙ sym (turn_told y lw lc p m _ e.same)
 
 -- The rows of an array of arrays have sixteen cells each: what is known of the array says it element by element.
 abbrev CellRow : RattleType

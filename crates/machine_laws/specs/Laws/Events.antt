@@ -1,16 +1,17 @@
 -- The four numbers of an event tell it: document 01's table gives no two events of turns the same numbers.
-use Rattle.std.specs.Prelude.{◌≡◌, Bool, cond, List, [], ◌∷◌, ℕ, zero, suc, ◌+◌, ◌%◌, ◌≤◌, ◌<◌, eqb, length, get_or}
+use Rattle.std.specs.Prelude.{◌≡◌, Bool, Option, Some, None, cond, List, [], ◌∷◌, ℕ, zero, suc, ◌+◌, ◌%◌, ◌≤◌, ◌<◌, eqb, length, get_or}
 use Rattle.std.proofs.Math.Path.{refl}
 use Rattle.std.proofs.Common.{sym, ap, ◌∙◌, ne_eqb, ltb-true}
 use Rattle.std.proofs.Math.Bool.{true, false}
-use Rattle.std.proofs.Math.Option.{Option, none, some}
+use Rattle.std.proofs.Math.Option.{none, some}
+use Rattle.std.proofs.Math.Option as maybe
 use Rattle.std.proofs.Math.Numerals.{add-one}
 use native.Mathlib.Omega.{arith}
 use Rattle.std.proofs.Math.Dec.{ltb}
 use Rattle.std.proofs.Math.ListN.{get_or-eq_default}
-use Rattle.machine_laws.specs.Kinds.{Task, Chan, Row, Port, Nil, On, Op, Send, Forward, Recv, Otherwise, Wait, Go, Statement, Do, Close, Range, Repeat, Ifok, Select, Case, Stop, Status, Able, Waiting, Ended, Event, Appended, Handed, Taken, Refilled, Received, Drained, Closed, Waits, Branched, Finished, Faulted, Refused, EventNumbers, TaskState, Side, Receiving, Sending, Found, Nobody, At, Plan}
+use Rattle.machine_laws.specs.Kinds.{Task, Chan, Row, Port, Nil, On, Op, Send, Forward, Recv, Otherwise, Wait, Go, Statement, Do, Close, Range, Repeat, Ifok, Select, Case, Stop, Status, Able, Waiting, Ended, Event, Appended, Handed, Taken, Refilled, Received, Drained, Closed, Waits, Branched, Finished, Faulted, Refused, EventNumbers, TaskState, Side, Receiving, Sending, Waiter, Plan, Refusal}
 use Rattle.meaning.specs.Events.{no_channel, no_value, no_partner, port_number, numbers}
-use Rattle.meaning.specs.Numbers.{halted, no_such_task, no_fault}
+use Rattle.meaning.specs.Numbers.{halted, no_fault}
 use Rattle.meaning.specs.Image.{row_no}
 use Rattle.meaning.specs.Bytes.{port_of, row_count, channel_count, body_of, rows_in, tabulate}
 use Rattle.image_check.specs.Sound.{PortSound, OpSound, Followed, StatementSound, Sound}
@@ -113,30 +114,30 @@ module _ (rs : List ℕ) (s : Records) (me : Task) where
   abbrev Told : Plan → Type 0
   Told p = Numbered (applied rs s me p).event
 
-  abbrev EachTold : Option Plan → Type 0
+  abbrev EachTold : maybe.Option Plan → Type 0
   EachTold none = Unit {0}
   EachTold (some p) = Told p
 
-  or_told : (z : Option Plan) → EachTold z → Told (or_wait z)
+  or_told : (z : maybe.Option Plan) → EachTold z → Told (or_wait z)
   unfolding applied
   or_told none h = tt
   or_told (some p) h = h
 
-  send_told : (c : Chan) (v : ℕ) (next : Row) (q : Bool) (w : Found) (room : Bool) → PortNumbered (On c) → EachTold (r.send_on c v next q w room)
+  send_told : (c : Chan) (v : ℕ) (next : Row) (q : Bool) (w : Option Waiter) (room : Bool) → PortNumbered (On c) → EachTold (r.send_on c v next q w room)
   unfolding applied
   send_told c v next true w room h = h
-  send_told c v next false (At t o i n) room h = tt
-  send_told c v next false Nobody true h = tt
-  send_told c v next false Nobody false h = tt
+  send_told c v next false (Some f) room h = tt
+  send_told c v next false None true h = tt
+  send_told c v next false None false h = tt
 
-  receive_told : (c : Chan) (hit miss : Row) (v : ℕ) (q : Bool) (w : Found) (z : Bool)
+  receive_told : (c : Chan) (hit miss : Row) (v : ℕ) (q : Bool) (w : Option Waiter) (z : Bool)
       → FoundHas (λ t. t.0 < no_partner) w → EachTold (r.receive_on s c hit miss v q w z)
   unfolding applied
-  receive_told c hit miss v true (At t o i n) z h = h
-  receive_told c hit miss v true Nobody z h = tt
-  receive_told c hit miss v false (At t o i n) z h = tt
-  receive_told c hit miss v false Nobody true h = tt
-  receive_told c hit miss v false Nobody false h = tt
+  receive_told c hit miss v true (Some f) z h = h
+  receive_told c hit miss v true None z h = tt
+  receive_told c hit miss v false (Some f) z h = tt
+  receive_told c hit miss v false None true h = tt
+  receive_told c hit miss v false None false h = tt
 
   repeat_told : (x : TaskState) (d n : ℕ) (body after : Row) → Told (repeated x d n body after)
   unfolding repeated applied
@@ -146,12 +147,12 @@ module _ (rs : List ℕ) (s : Records) (me : Task) where
       go true = tt
       go false = tt
 
-  close_told : (c : Chan) (next : Row) (q : Bool) (i j : Found) → PortNumbered (On c) → Told (r.close_on c next q i j)
+  close_told : (c : Chan) (next : Row) (q : Bool) (i j : Option Waiter) → PortNumbered (On c) → Told (r.close_on c next q i j)
   unfolding applied
   close_told c next true i j h = h
-  close_told c next false (At t o k n) j h = tt
-  close_told c next false Nobody (At t o k n) h = h
-  close_told c next false Nobody Nobody h = tt
+  close_told c next false (Some f) j h = tt
+  close_told c next false None (Some f) h = h
+  close_told c next false None None h = tt
 
   default_told : (e : Otherwise) → Told (no_case e)
   unfolding applied
@@ -234,9 +235,9 @@ module _ (bs : List ℕ) (sound : Sound bs) (s : Records) (b : Values) (a : Arra
     act_told choice Stop h = tt
 
   module _ (t : Task) (choice : ℕ) where
-    -- The event of the turn, by the number that refuses it.
-    abbrev TurnTold : ℕ → Type 0
-    TurnTold n = Numbered (stepped_by rs rows s b t choice n).event
+    -- The event of the turn, by why it is refused.
+    abbrev TurnTold : Option Refusal → Type 0
+    TurnTold y = Numbered (stepped_by rs rows s b t choice y).event
 
     as_told : t.0 < s.taskcount → (st : Status) → TurnTold (refusal_of st)
     unfolding plan_of
@@ -250,7 +251,7 @@ module _ (bs : List ℕ) (sound : Sound bs) (s : Records) (b : Values) (a : Arra
     unfolding stepped refused_by
     step_told = go (eqb s.fault no_fault) (ltb t.0 s.taskcount) refl
       where
-        go : (p q : Bool) → ltb t.0 s.taskcount ≡ q → TurnTold (cond p (cond q (refusal_of (task_in s.tasks t).status) no_such_task) halted)
+        go : (p q : Bool) → ltb t.0 s.taskcount ≡ q → TurnTold (cond p (cond q (refusal_of (task_in s.tasks t).status) (Some Refusal.NoSuchTask)) (Some Refusal.Halted))
         go true true e = as_told (ltb-true t.0 s.taskcount e) (task_in s.tasks t).status
         go true false e = omega arith
         go false q e = omega arith

@@ -1,12 +1,12 @@
 -- A turn over the records is the meaning's turn, seen through `view`. Each table of the rules follows the meaning's table of the
 -- same name clause by clause, and so do the laws here: a clause cites one law for the tasks, one for the order and one for the
 -- channels.
-use Rattle.std.specs.Prelude.{◌≡◌, Bool, cond, length, take}
+use Rattle.std.specs.Prelude.{◌≡◌, Bool, Option, Some, None, cond, length, take}
 use Rattle.std.proofs.Math.Path.{refl, sym, ap}
 use Rattle.std.proofs.Common.{◌∙◌, le_of_suc-le-suc, not-suc-le-zero, mod-lt, arith, get_or-take}
 use Rattle.std.proofs.Math.Bool.{true, false}
-use Rattle.std.proofs.Math.Option
-use Rattle.std.proofs.Math.Option.{Option, none, some}
+use Rattle.std.proofs.Math.Option.{none, some}
+use Rattle.std.proofs.Math.Option as maybe
 use mathlib.Core.List.{List, [], ◌∷◌, ◌++◌, map}
 use Prim.Native.Nat.{ℕ, zero, suc, ◌+◌, ◌%◌, ◌≤◌, ◌<◌}
 use Rattle.std.proofs.Math.Nat.{mod-eq_of_lt}
@@ -15,8 +15,8 @@ use Rattle.std.proofs.Math.Dec.{ltb}
 use Rattle.std.proofs.Math.ListN.{get_or, set, get_elem?, length-take}
 use Rattle.std.proofs.lemmas.List.{length-map}
 use borrow.Author.Tests.{lt-ltb, le-ltb, ltb-true, ltb-false, eq-eqb, ne_eqb}
-use Rattle.machine_laws.specs.Kinds.{Task, Chan, Row, Port, Nil, On, Op, Send, Forward, Recv, Otherwise, Wait, Go, Statement, Do, Close, Range, Repeat, Ifok, Select, Case, Stop, Status, Able, Waiting, Ended, Event, Appended, Handed, Taken, Refilled, Received, Drained, Closed, Waits, Branched, Finished, TaskState, ChanState, Change, Keep, Append, Take, Refill, Side, Receiving, Sending, Offer, Found, Nobody, At, Plan}
-use Rattle.meaning.specs.Numbers.{task_limit, channel_limit, capacity_limit, depth_limit, lap_limit, stamp_modulus, send_on_closed, close_of_nil, close_of_closed, close_under_sender, no_such_task}
+use Rattle.machine_laws.specs.Kinds.{Task, Chan, Row, Port, Nil, On, Op, Send, Forward, Recv, Otherwise, Wait, Go, Statement, Do, Close, Range, Repeat, Ifok, Select, Case, Stop, Status, Able, Waiting, Ended, Event, Appended, Handed, Taken, Refilled, Received, Drained, Closed, Waits, Branched, Finished, TaskState, ChanState, Change, Keep, Append, Take, Refill, Side, Receiving, Sending, Offer, Waiter, Fault, Plan, Refusal}
+use Rattle.meaning.specs.Numbers.{task_limit, channel_limit, capacity_limit, depth_limit, lap_limit, stamp_modulus}
 use Rattle.meaning.specs.Machine as m
 use Rattle.meaning.specs.Image.{Spot, spot, row_no, image_case, image_cases, image_default, image_repeat, image_statement, image_look}
 use Rattle.meaning.specs.Bytes.{row_count, channel_count, body_of, rows_in, rows_of, capacity_in, tabulate, capacities_of}
@@ -31,7 +31,7 @@ use Rattle.machine_records.specs.Cells.{cons_if, keep}
 use Rattle.machine_records.specs.Records.{Records, blank_task, blank_chan, task_in, chan_in, order_of, got_task, went_task, stood_task, lap_task, task_got, task_went, task_stood, task_lapped, chan_longer, chan_shorter, chan_shut, joined, left}
 use Rattle.machine_records.specs.Values.{Values, row_for, oldest, changed}
 use Rattle.machine_records.specs.Waiters.{case_offer, serves, waits_at, first_waiter, count_waiters}
-use Rattle.machine_records.specs.Plans.{did, idle, woken_all, applied}
+use Rattle.machine_records.specs.Plans.{fault_number, did, idle, woken_all, applied}
 use Rattle.machine_records.specs.Rules as r
 use Rattle.machine_records.specs.Step.{or_wait, no_case, repeated, plan_by, offer_of, plan_of, refusal_of, refused_by, stepped_by, stepped}
 use Rattle.machine_records.specs.View.{standing_of, channel_of, channels_of, view_in, view, turned_of}
@@ -47,23 +47,23 @@ get_d_map g (x ∷ xs) (suc n) d e h = get_d_map g xs n d e (le_of_suc-le-suc h)
 
 -- READY: an operation is ready where its attempt gives a plan
 
-abbrev is_some : {A : Type 0} → Option A → Bool
+abbrev is_some : {A : Type 0} → maybe.Option A → Bool
 is_some none = false
 is_some (some d) = true
 
-send_ready_lem : (c : Chan) (v : ℕ) (next : Row) (q : Bool) (w : Found) (room : Bool) → is_some (r.send_on c v next q w room) ≡ r.can_send q w room
+send_ready_lem : (c : Chan) (v : ℕ) (next : Row) (q : Bool) (w : Option Waiter) (room : Bool) → is_some (r.send_on c v next q w room) ≡ r.can_send q w room
 send_ready_lem c v next true w room = refl
-send_ready_lem c v next false Nobody true = refl
-send_ready_lem c v next false Nobody false = refl
-send_ready_lem c v next false (At t o h n) room = refl
+send_ready_lem c v next false None true = refl
+send_ready_lem c v next false None false = refl
+send_ready_lem c v next false (Some f) room = refl
 
 module _ (s : Records) (c : Chan) (hit miss : Row) (v : ℕ) where
-  receive_ready_lem : (q : Bool) (w : Found) (z : Bool) → is_some (r.receive_on s c hit miss v q w z) ≡ r.can_receive q w z
-  receive_ready_lem true Nobody z = refl
-  receive_ready_lem true (At t o h n) z = refl
-  receive_ready_lem false Nobody true = refl
-  receive_ready_lem false Nobody false = refl
-  receive_ready_lem false (At t o h n) z = refl
+  receive_ready_lem : (q : Bool) (w : Option Waiter) (z : Bool) → is_some (r.receive_on s c hit miss v q w z) ≡ r.can_receive q w z
+  receive_ready_lem true None z = refl
+  receive_ready_lem true (Some f) z = refl
+  receive_ready_lem false None true = refl
+  receive_ready_lem false None false = refl
+  receive_ready_lem false (Some f) z = refl
 
 module _ (rs : List ℕ) (rows : ℕ) (s : Records) (b : Values) (register : ℕ) where
   send_to_ready : (p : Port) (v : ℕ) (next : Row) → is_some (r.send_to rs rows s p v next) ≡ r.send_ready rs rows s p
@@ -261,9 +261,9 @@ module _ (bs : List ℕ) (sound : Sound bs) (s : Records) (b : Values) (a : Arra
 
     -- PLANS THAT CHANGE NO CHANNEL
 
-    fail_seen : (n : ℕ) (p : Port) → ran (Plan.Fail n p) ≡ m.fails me mover seen n p
+    fail_seen : (f : Fault) (p : Port) → ran (Plan.Fail f p) ≡ m.fails me mover seen (fault_number f) p
     unfolding view_in applied changed
-    fail_seen n p = refl
+    fail_seen f p = refl
 
     branch_seen : (n : Row) → ran (Plan.Branch n) ≡ m.did Branched (moved_to n)
     unfolding view_in applied changed
@@ -290,52 +290,52 @@ module _ (bs : List ℕ) (sound : Sound bs) (s : Records) (b : Values) (a : Arra
       abbrev by : m.Case Spot
       by = case_of x.laps o hit miss
 
-      send_clauses : (v : ℕ) (q : Bool) (w : Found) (ws : List (m.Waiter Spot)) (room : Bool)
+      send_clauses : (v : ℕ) (q : Bool) (w : Option Waiter) (ws : List (m.Waiter Spot)) (room : Bool)
           → HeadIs s w ws → FoundHas Partner w → (room ≡ true → (kept c).len < capacity_limit)
-          → Option.map ran (r.send_on c v hit q w room) ≡ m.send_on me mover seen c v by q ws room
+          → maybe.map ran (r.send_on c v hit q w room) ≡ m.send_on me mover seen c v by q ws room
       unfolding m.send_on view_in applied changed
-      send_clauses v true w ws room hd p fits = ap some (fail_seen send_on_closed (On c))
-      send_clauses v false Nobody [] true hd p fits =
+      send_clauses v true w ws room hd p fits = ap some (fail_seen Fault.SendOnClosed (On c))
+      send_clauses v false None [] true hd p fits =
           ap some (did_seen (Appended c v) (task_went (chan_longer s c) me hit) (Append c (kept c).len v) _ _ _ (moves (went_task x hit)) refl
           (channels_appended caps s b a c (declared c h) (few c h) v (fits refl)))
-      send_clauses v false Nobody [] false hd p fits = refl
-      send_clauses v false Nobody (w ∷ ws) room hd p fits = absurd hd
-      send_clauses v false (At t q j n) [] room hd p fits = absurd hd
-      send_clauses v false (At t q j n) (w ∷ ws) room hd p fits =
+      send_clauses v false None [] false hd p fits = refl
+      send_clauses v false None (w ∷ ws) room hd p fits = absurd hd
+      send_clauses v false (Some g) [] room hd p fits = absurd hd
+      send_clauses v false (Some g) (w ∷ ws) room hd p fits =
           rw hd
-          (ap some (did_seen (Handed c v t) (left (task_got (task_went s me hit) t v true j) t) Keep _ _ _
-          (wakes (went_task x hit) (λ y. got_task y v true j) t p) (order_left s t) refl))
+          (ap some (did_seen (Handed c v g.task) (left (task_got (task_went s me hit) g.task v true g.offer.hit) g.task) Keep _ _ _
+          (wakes (went_task x hit) (λ y. got_task y v true g.offer.hit) g.task p) (order_left s g.task) refl))
 
-      receive_full : (v : ℕ) (vs : List ℕ) → held c ≡ v ∷ vs → (w : Found) (ws : List (m.Waiter Spot)) (q : Bool) → HeadIs s w ws → FoundHas Partner w
-          → Option.map ran (r.receive_on s c hit miss v true w q) ≡ m.receive_on me mover seen c by (v ∷ vs) ws q
+      receive_full : (v : ℕ) (vs : List ℕ) → held c ≡ v ∷ vs → (w : Option Waiter) (ws : List (m.Waiter Spot)) (q : Bool) → HeadIs s w ws → FoundHas Partner w
+          → maybe.map ran (r.receive_on s c hit miss v true w q) ≡ m.receive_on me mover seen c by (v ∷ vs) ws q
       unfolding m.receive_on view_in applied changed
-      receive_full v vs e Nobody [] q hd p =
+      receive_full v vs e None [] q hd p =
           ap some (did_seen (Taken c v) (task_got (chan_shorter s c) me v true hit) (Take c (kept c).len) _ _ _ (moves (got_task x v true hit)) refl
           (channels_taken caps s b a c (declared c h) (few c h) (len_most c h) v vs e))
-      receive_full v vs e Nobody (w ∷ ws) q hd p = absurd hd
-      receive_full v vs e (At t g j n) [] q hd p = absurd hd
-      receive_full v vs e (At t g j n) (w ∷ ws) q hd p =
-          let sent : ℕ = r.sent_by s t g in
+      receive_full v vs e None (w ∷ ws) q hd p = absurd hd
+      receive_full v vs e (Some g) [] q hd p = absurd hd
+      receive_full v vs e (Some g) (w ∷ ws) q hd p =
+          let sent : ℕ = r.sent_by s g in
           rw hd
-          (ap some (did_seen (Refilled c v t) (left (task_went (task_got s me v true hit) t j) t) (Refill c (kept c).len sent) _ _ _
-          (wakes (got_task x v true hit) (λ y. went_task y j) t p) (order_left s t)
+          (ap some (did_seen (Refilled c v g.task) (left (task_went (task_got s me v true hit) g.task g.offer.hit) g.task) (Refill c (kept c).len sent) _ _ _
+          (wakes (got_task x v true hit) (λ y. went_task y g.offer.hit) g.task p) (order_left s g.task)
           (channels_refilled caps s b a c (declared c h) (few c h) (len_most c h) v vs e sent)))
 
-      receive_empty : (v : ℕ) (w : Found) (ws : List (m.Waiter Spot)) (q : Bool) → HeadIs s w ws → FoundHas Partner w
-          → Option.map ran (r.receive_on s c hit miss v false w q) ≡ m.receive_on me mover seen c by [] ws q
+      receive_empty : (v : ℕ) (w : Option Waiter) (ws : List (m.Waiter Spot)) (q : Bool) → HeadIs s w ws → FoundHas Partner w
+          → maybe.map ran (r.receive_on s c hit miss v false w q) ≡ m.receive_on me mover seen c by [] ws q
       unfolding m.receive_on view_in applied changed
-      receive_empty v Nobody [] true hd p = ap some (did_seen (Drained c) (task_got s me 0 false miss) Keep _ _ _ (moves (got_task x 0 false miss)) refl refl)
-      receive_empty v Nobody [] false hd p = refl
-      receive_empty v Nobody (w ∷ ws) q hd p = absurd hd
-      receive_empty v (At t g j n) [] q hd p = absurd hd
-      receive_empty v (At t g j n) (w ∷ ws) q hd p =
-          let sent : ℕ = r.sent_by s t g in
+      receive_empty v None [] true hd p = ap some (did_seen (Drained c) (task_got s me 0 false miss) Keep _ _ _ (moves (got_task x 0 false miss)) refl refl)
+      receive_empty v None [] false hd p = refl
+      receive_empty v None (w ∷ ws) q hd p = absurd hd
+      receive_empty v (Some g) [] q hd p = absurd hd
+      receive_empty v (Some g) (w ∷ ws) q hd p =
+          let sent : ℕ = r.sent_by s g in
           rw hd
-          (ap some (did_seen (Received c sent t) (left (task_went (task_got s me sent true hit) t j) t) Keep _ _ _
-          (wakes (got_task x sent true hit) (λ y. went_task y j) t p) (order_left s t) refl))
+          (ap some (did_seen (Received c sent g.task) (left (task_went (task_got s me sent true hit) g.task g.offer.hit) g.task) Keep _ _ _
+          (wakes (got_task x sent true hit) (λ y. went_task y g.offer.hit) g.task p) (order_left s g.task) refl))
 
-      receive_clauses : (l : List ℕ) → held c ≡ l → (w : Found) (ws : List (m.Waiter Spot)) (q : Bool) → HeadIs s w ws → FoundHas Partner w
-          → Option.map ran (r.receive_on s c hit miss (oldest b c) (ltb 0 (kept c).len) w q) ≡ m.receive_on me mover seen c by l ws q
+      receive_clauses : (l : List ℕ) → held c ≡ l → (w : Option Waiter) (ws : List (m.Waiter Spot)) (q : Bool) → HeadIs s w ws → FoundHas Partner w
+          → maybe.map ran (r.receive_on s c hit miss (oldest b c) (ltb 0 (kept c).len) w q) ≡ m.receive_on me mover seen c by l ws q
       receive_clauses [] e w ws q hd p =
           let n : (kept c).len ≤ 0 = omega (arith, held-length c h, ap (λ (l : List ℕ). length l) e) in
           rw (le-ltb 0 (kept c).len n) (receive_empty (oldest b c) w ws q hd p)
@@ -346,7 +346,7 @@ module _ (bs : List ℕ) (sound : Sound bs) (s : Records) (b : Values) (a : Arra
 
     module _ (o : Op) (hit miss : Row) where
       send_seen : (p : Port) (v : ℕ) → PortSound (channel_count bs) p
-          → Option.map ran (r.send_to rs rows s p v hit) ≡ m.send_to look me choice mover seen p v (case_of x.laps o hit miss)
+          → maybe.map ran (r.send_to rs rows s p v hit) ≡ m.send_to look me choice mover seen p v (case_of x.laps o hit miss)
       unfolding m.send_to r.send_to
       send_seen Nil v h = refl
       send_seen (On c) v h =
@@ -355,7 +355,7 @@ module _ (bs : List ℕ) (sound : Sound bs) (s : Records) (b : Values) (a : Arra
           (heads Receiving c) (partners Receiving c) (room_left c h))
 
       receive_seen : (p : Port) → PortSound (channel_count bs) p
-          → Option.map ran (r.receive_from rs s b p hit miss) ≡ m.receive_from look me choice mover seen p (case_of x.laps o hit miss)
+          → maybe.map ran (r.receive_from rs s b p hit miss) ≡ m.receive_from look me choice mover seen p (case_of x.laps o hit miss)
       unfolding m.receive_from r.receive_from
       receive_seen Nil h = refl
       receive_seen (On c) h =
@@ -365,13 +365,13 @@ module _ (bs : List ℕ) (sound : Sound bs) (s : Records) (b : Values) (a : Arra
           (heads Sending c) (partners Sending c))
 
     -- What an operation comes to, in the records and in the meaning.
-    abbrev planned : Op → Row → Row → Option Plan
+    abbrev planned : Op → Row → Row → maybe.Option Plan
     planned o hit miss = r.attempt rs rows s b x.register o hit miss
 
-    abbrev meant : Op → Row → Row → Option (m.Turned Spot)
+    abbrev meant : Op → Row → Row → maybe.Option (m.Turned Spot)
     meant o hit miss = m.attempt look me choice mover seen o (case_of x.laps o hit miss)
 
-    attempt_seen : (o : Op) (hit miss : Row) → OpSound (channel_count bs) o → Option.map ran (planned o hit miss) ≡ meant o hit miss
+    attempt_seen : (o : Op) (hit miss : Row) → OpSound (channel_count bs) o → maybe.map ran (planned o hit miss) ≡ meant o hit miss
     unfolding m.attempt
     attempt_seen (Send p v) hit miss h = send_seen (Send p v) hit miss p v h
     attempt_seen (Forward p) hit miss h = send_seen (Forward p) hit miss p x.register h
@@ -402,30 +402,30 @@ module _ (bs : List ℕ) (sound : Sound bs) (s : Records) (b : Values) (a : Arra
           ∙ sym (ap (m.did (Closed c (length all)))
           (ap (λ l. m.wake_all all (seen_with l)) (sym (moves y)) ∙ woken)))
 
-      close_clauses : (q : Bool) (i j : Found) (vs ws : List (m.Waiter Spot)) → HeadIs s i vs → HeadIs s j ws → walked rs s Receiving c (order_of s) ≡ vs
+      close_clauses : (q : Bool) (i j : Option Waiter) (vs ws : List (m.Waiter Spot)) → HeadIs s i vs → HeadIs s j ws → walked rs s Receiving c (order_of s) ≡ vs
           → ran (r.close_on c n q i j) ≡ m.close_on me mover seen c (spot x.laps n) q vs ws
       unfolding m.close_on m.wake_all
-      close_clauses true i j vs ws d g w = fail_seen close_of_closed (On c)
-      close_clauses false (At t o k l) j [] ws d g w = absurd d
-      close_clauses false (At t o k l) j (v ∷ vs) ws d g w = shut_seen (v ∷ vs) w
-      close_clauses false Nobody j (v ∷ vs) ws d g w = absurd d
-      close_clauses false Nobody (At t o k l) [] [] d g w = absurd g
-      close_clauses false Nobody (At t o k l) [] (v ∷ ws) d g w = fail_seen close_under_sender (On c)
-      close_clauses false Nobody Nobody [] (v ∷ ws) d g w = absurd g
-      close_clauses false Nobody Nobody [] [] d g w = shut_seen [] w
+      close_clauses true i j vs ws d g w = fail_seen Fault.CloseOfClosed (On c)
+      close_clauses false (Some f) j [] ws d g w = absurd d
+      close_clauses false (Some f) j (v ∷ vs) ws d g w = shut_seen (v ∷ vs) w
+      close_clauses false None j (v ∷ vs) ws d g w = absurd d
+      close_clauses false None (Some f) [] [] d g w = absurd g
+      close_clauses false None (Some f) [] (v ∷ ws) d g w = fail_seen Fault.CloseUnderSender (On c)
+      close_clauses false None None [] (v ∷ ws) d g w = absurd g
+      close_clauses false None None [] [] d g w = shut_seen [] w
 
     close_seen : (p : Port) (n : Row) → PortSound (channel_count bs) p → ran (r.close_port rs s p n) ≡ m.close look me choice mover seen p (spot x.laps n)
     unfolding m.close r.close_port
-    close_seen Nil n h = fail_seen close_of_nil Nil
+    close_seen Nil n h = fail_seen Fault.CloseOfNil Nil
     close_seen (On c) n h =
-        let first : Side → Found = λ side. first_waiter rs s side c in
+        let first : Side → Option Waiter = λ side. first_waiter rs s side c in
         rw (closed_is c h)
         (close_clauses c h n (kept c).closed (first Receiving) (first Sending) (waiters Receiving c) (waiters Sending c)
         (heads Receiving c) (heads Sending c) (sym (waiting Receiving c)))
 
     -- OR WAIT
 
-    or_wait_lem : (z : Option Plan) (y : Option (m.Turned Spot)) → Option.map ran z ≡ y → ran (or_wait z) ≡ m.choose me mover seen (m.add_if y []) none choice
+    or_wait_lem : (z : maybe.Option Plan) (y : maybe.Option (m.Turned Spot)) → maybe.map ran z ≡ y → ran (or_wait z) ≡ m.choose me mover seen (m.add_if y []) none choice
     unfolding m.choose m.add_if
     or_wait_lem none none e = wait_seen
     or_wait_lem none (some q) e = cc
@@ -442,7 +442,7 @@ module _ (bs : List ℕ) (sound : Sound bs) (s : Records) (b : Values) (a : Arra
     -- ready cases
 
     module _ (k : ℕ) (e : Otherwise) where
-      abbrev doing : Offer → m.Turned Spot
+      abbrev doing : Option Offer → m.Turned Spot
       doing g = ran (plan_by rs rows s b x (Select k e) g)
 
       abbrev doing_at : ℕ → m.Turned Spot
@@ -457,8 +457,8 @@ module _ (bs : List ℕ) (sound : Sound bs) (s : Records) (b : Values) (a : Arra
       abbrev ready_at : ℕ → ℕ → List ℕ
       ready_at n i = keep (r.row_ready rs rows s) (tabulate (λ j. j) n i)
 
-      add_ready : (z : Option Plan) (y : Option (m.Turned Spot)) (p : Bool) (j : ℕ) (js : List ℕ)
-          → Option.map ran z ≡ y → is_some z ≡ p → doing_at j ≡ ran (or_wait z)
+      add_ready : (z : maybe.Option Plan) (y : maybe.Option (m.Turned Spot)) (p : Bool) (j : ℕ) (js : List ℕ)
+          → maybe.map ran z ≡ y → is_some z ≡ p → doing_at j ≡ ran (or_wait z)
           → map doing_at (cons_if p j js) ≡ m.add_if y (map doing_at js)
       unfolding m.add_if
       add_ready none none true j js e h d = cc
@@ -562,9 +562,9 @@ module _ (bs : List ℕ) (sound : Sound bs) (s : Records) (b : Values) (a : Arra
   -- THE TURN
 
   module _ (t : Task) (choice : ℕ) where
-    -- The turn, by the number that refuses it.
-    abbrev turn_by : ℕ → m.Turned Spot
-    turn_by n = turned_of bs b (stepped_by rs rows s b t choice n)
+    -- The turn, by why it is refused.
+    abbrev turn_by : Option Refusal → m.Turned Spot
+    turn_by y = turned_of bs b (stepped_by rs rows s b t choice y)
 
     abbrev status : Status
     status = (task_in s.tasks t).status
@@ -576,7 +576,7 @@ module _ (bs : List ℕ) (sound : Sound bs) (s : Records) (b : Values) (a : Arra
     as_seen h Ended e = refl
 
     of_seen : (q : Bool) → ltb t.0 s.taskcount ≡ q
-        → turn_by (cond q (refusal_of status) no_such_task) ≡ m.turn_of look t choice seen (get_elem? standings t.0)
+        → turn_by (cond q (refusal_of status) (Some Refusal.NoSuchTask)) ≡ m.turn_of look t choice seen (get_elem? standings t.0)
     unfolding m.turn_of changed
     of_seen true e =
         let h : t.0 < s.taskcount = ltb-true t.0 s.taskcount e in

@@ -1,12 +1,12 @@
 -- What no turn over the records changes: the lists stay as long as their arrays, and a state that fits stays one that fits.
-use Rattle.std.specs.Prelude.{◌≡◌, false, length, get_or, set, drop}
+use Rattle.std.specs.Prelude.{◌≡◌, false, Option, Some, None, length, get_or, set, drop}
 use Rattle.std.proofs.Math.Path.{refl, ap, subst}
 use Rattle.std.proofs.Common.{sym, ◌∙◌, arith, length-append, length-drop, get_or-set_same, get_or-set_other}
 use mathlib.Core.List.{List, [], ◌∷◌}
 use Prim.Native.Nat.{ℕ, zero, suc, ◌+◌, ◌-◌, ◌%◌, ◌≤◌, ◌<◌}
 use Rattle.std.proofs.Math.Decide.{ℕ_discrete}
 use Rattle.std.proofs.Math.ListN.{length-take, length-set}
-use Rattle.machine_laws.specs.Kinds.{Task, Chan, TaskState, ChanState, Change, Keep, Append, Take, Refill, Receiving, Offer, Nothing, By, Plan}
+use Rattle.machine_laws.specs.Kinds.{Task, Chan, TaskState, ChanState, Change, Keep, Append, Take, Refill, Receiving, Offer, Plan, Refusal}
 use Rattle.meaning.specs.Numbers.{task_limit, channel_limit, capacity_limit, depth_limit, stamp_modulus}
 use Rattle.meaning.specs.Machine as m
 use Rattle.meaning.specs.Image.{Spot, image_look, chan_no}
@@ -21,7 +21,7 @@ use Rattle.machine_records.specs.Records.{Records, blank_task, blank_chan, task_
 use Rattle.machine_records.specs.Laws.Sized.{Laps, Sized}
 use Rattle.machine_records.specs.Values.{Values, row_for, shifted, with_value, without_first, changed}
 use Rattle.machine_records.specs.Waiters.{waits_at}
-use Rattle.machine_records.specs.Plans.{Done, idle, woken_by, woken_tasks, applied}
+use Rattle.machine_records.specs.Plans.{Done, fault_number, idle, woken_by, woken_tasks, applied}
 use Rattle.machine_records.specs.Step.{plan_of, refused_by, stepped_by, stepped}
 use Rattle.machine_records.specs.View.{channel_of, view_in, view}
 use Rattle.machine_laws.specs.Laws.Fit.{Arrays, Fit}
@@ -153,18 +153,18 @@ module _ {s z : Records} (k : Shape s z) where
     }
 
 module _ (rs : List ℕ) (s : Records) (c : Chan) where
-  woken_by_lem : (t : Task) (g : Offer) (xs : List TaskState) → length (woken_by rs s c t g xs) ≡ length xs
-  woken_by_lem t Nothing xs = refl
-  woken_by_lem t (By o h miss) xs = length-set xs (t.0 % task_limit) (got_task (task_in xs t) 0 false miss)
+  woken_by_lem : (t : Task) (g : Option Offer) (xs : List TaskState) → length (woken_by rs s c t g xs) ≡ length xs
+  woken_by_lem t None xs = refl
+  woken_by_lem t (Some g) xs = length-set xs (t.0 % task_limit) (got_task (task_in xs t) 0 false g.miss)
 
   woken_tasks_lem : (ts : List Task) (xs : List TaskState) → length (woken_tasks rs s c ts xs) ≡ length xs
   unfolding woken_tasks
   woken_tasks_lem [] xs = refl
   woken_tasks_lem (t ∷ ts) xs = woken_tasks_lem ts (woken_by rs s c t (waits_at rs s Receiving c t) xs) ∙ woken_by_lem t (waits_at rs s Receiving c t) xs
 
-  by_laps : (t : Task) (g : Offer) (xs : List TaskState) → Laps xs → Laps (woken_by rs s c t g xs)
-  by_laps t Nothing xs l = l
-  by_laps t (By o h miss) xs l = laps_set xs (t.0 % task_limit) (got_task (task_in xs t) 0 false miss) (laps_in xs t l) l
+  by_laps : (t : Task) (g : Option Offer) (xs : List TaskState) → Laps xs → Laps (woken_by rs s c t g xs)
+  by_laps t None xs l = l
+  by_laps t (Some g) xs l = laps_set xs (t.0 % task_limit) (got_task (task_in xs t) 0 false g.miss) (laps_in xs t l) l
 
   woken_laps : (ts : List Task) (xs : List TaskState) → Laps xs → Laps (woken_tasks rs s c ts xs)
   unfolding woken_tasks
@@ -187,7 +187,7 @@ module _ (s : Records) (line : length s.order ≡ task_limit) (full : length s.c
 
     plan_kept : (p : Plan) → Shape s (applied rs s me p).after
     unfolding applied
-    plan_kept (Plan.Fail f p) = kept_ticked (kept_halted kept_all f me)
+    plan_kept (Plan.Fail f p) = kept_ticked (kept_halted kept_all (fault_number f) me)
     plan_kept Plan.Wait = kept_ticked (kept_joined (kept_task kept_all me _ (λ l. l)) me)
     plan_kept (Plan.Branch r) = kept_ticked (kept_task kept_all me _ (λ l. l))
     plan_kept (Plan.Lap d k r) =
@@ -209,9 +209,9 @@ module _ (s : Records) (line : length s.order ≡ task_limit) (full : length s.c
         kept_ticked (kept_ordered awake (keep (idle rs s c) (order_of s)) (order_kept s (idle rs s c)))
 
   module _ (rs : List ℕ) (rows : ℕ) (b : Values) (t : Task) (choice : ℕ) where
-    kept_by : (n : ℕ) → Shape s (stepped_by rs rows s b t choice n).after
-    kept_by zero = plan_kept rs t (plan_of rs rows s b (task_in s.tasks t) choice)
-    kept_by (suc n) = kept_all
+    kept_by : (r : Option Refusal) → Shape s (stepped_by rs rows s b t choice r).after
+    kept_by None = plan_kept rs t (plan_of rs rows s b (task_in s.tasks t) choice)
+    kept_by (Some r) = kept_all
 
     step_kept : Shape s (stepped rs rows s b t choice).after
     unfolding stepped

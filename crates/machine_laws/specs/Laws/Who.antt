@@ -1,14 +1,15 @@
 -- Who waits for what: the walk over the waiting tasks' records finds whom the meaning finds.
-use Rattle.std.specs.Prelude.{◌≡◌, Bool, not, eqb, length, set, take}
+use Rattle.std.specs.Prelude.{◌≡◌, Bool, Option, Some, None, not, eqb, length, set, take}
 use Rattle.std.proofs.Math.Path.{refl, sym, ap}
 use Rattle.std.proofs.Common.{◌∙◌, mod-eq_of_lt, arith, eqb-true, eq-eqb, ne_eqb}
 use Rattle.std.proofs.Math.Bool.{true, false, cond}
-use Rattle.std.proofs.Math.Option.{Option, none, some}
+use Rattle.std.proofs.Math.Option.{none, some}
+use Rattle.std.proofs.Math.Option as maybe
 use mathlib.Core.List.{List, [], ◌∷◌, ◌++◌, map}
 use Prim.Native.Nat.{ℕ, zero, suc, ◌+◌, ◌%◌, ◌≤◌, ◌<◌}
 use Rattle.std.proofs.Math.Numerals.{add-one}
 use Rattle.std.proofs.Math.ListN.{get_or}
-use Rattle.machine_laws.specs.Kinds.{Task, Chan, Row, Op, Recv, Statement, Do, Close, Range, Repeat, Ifok, Select, Case, Stop, Able, TaskState, Side, Receiving, Offer, Nothing, By, Found, Nobody, At}
+use Rattle.machine_laws.specs.Kinds.{Task, Chan, Row, Op, Recv, Statement, Do, Close, Range, Repeat, Ifok, Select, Case, Stop, Able, TaskState, Side, Receiving, Offer, Waiter}
 use Rattle.meaning.specs.Numbers.{task_limit}
 use Rattle.meaning.specs.Machine as m
 use Rattle.meaning.specs.Image.{Spot, spot, row_no, image_case, image_cases, image_repeat, image_statement, image_look}
@@ -27,29 +28,29 @@ use Rattle.machine_laws.specs.Laws.Leaves.{standings_at, task_set}
 abbrev pub case_of : List ℕ → Op → Row → Row → m.Case Spot
 case_of laps o hit miss = record { op = o; hit = spot laps hit; miss = spot laps miss }
 
-abbrev offered : List ℕ → Offer → Option (m.Case Spot)
-offered laps Nothing = none
-offered laps (By o h x) = some (case_of laps o h x)
+abbrev offered : List ℕ → Option Offer → maybe.Option (m.Case Spot)
+offered laps None = none
+offered laps (Some g) = some (case_of laps g.op g.hit g.miss)
 
 module _ (rs : List ℕ) (side : Side) (c : Chan) (laps : List ℕ) where
-  first_of_lem : (o : Op) (h x : Row) (rest : List (m.Case Spot)) (r : Offer) → m.first_case (w.serves side c) rest ≡ offered laps r
-      → m.first_case (w.serves side c) (case_of laps o h x ∷ rest) ≡ offered laps (w.or_else (w.serving side c (By o h x)) r)
+  first_of_lem : (o : Op) (h x : Row) (rest : List (m.Case Spot)) (r : Option Offer) → m.first_case (w.serves side c) rest ≡ offered laps r
+      → m.first_case (w.serves side c) (case_of laps o h x ∷ rest) ≡ offered laps (w.or_else (w.serving side c (w.offers o h x)) r)
   unfolding m.first_case
   first_of_lem o h x rest r e = go (w.serves side c o)
     where
-      go : (b : Bool) → cond b (some (case_of laps o h x)) (m.first_case (w.serves side c) rest) ≡ offered laps (w.or_else (cond b (By o h x) Nothing) r)
+      go : (b : Bool) → cond b (some (case_of laps o h x)) (m.first_case (w.serves side c) rest) ≡ offered laps (w.or_else (cond b (w.offers o h x) None) r)
       go true = refl
       go false = e
 
-  alone_offers : (o : Op) (h x : Row) → m.first_case (w.serves side c) (case_of laps o h x ∷ []) ≡ offered laps (w.serving side c (By o h x))
+  alone_offers : (o : Op) (h x : Row) → m.first_case (w.serves side c) (case_of laps o h x ∷ []) ≡ offered laps (w.serving side c (w.offers o h x))
   unfolding m.first_case
   alone_offers o h x = go (w.serves side c o)
     where
-      go : (b : Bool) → cond b (some (case_of laps o h x)) none ≡ offered laps (cond b (By o h x) Nothing)
+      go : (b : Bool) → cond b (some (case_of laps o h x)) none ≡ offered laps (cond b (w.offers o h x) None)
       go true = refl
       go false = refl
 
-  case_offers : (st : Statement) (rest : List (m.Case Spot)) (r : Offer) → m.first_case (w.serves side c) rest ≡ offered laps r
+  case_offers : (st : Statement) (rest : List (m.Case Spot)) (r : Option Offer) → m.first_case (w.serves side c) rest ≡ offered laps r
       → m.first_case (w.serves side c) (image_case laps st ++ rest) ≡ offered laps (w.or_else (w.serving side c (w.case_offer st)) r)
   unfolding image_case
   case_offers (Do o n) rest r e = e
@@ -85,38 +86,38 @@ look_offers rs side c y = statement_offers rs side c y.laps y.row.0 (rows_in rs 
 
 -- THE WALK
 
-abbrev waiter_of : Task → TaskState → Offer → List (m.Waiter Spot)
-waiter_of t y Nothing = []
-waiter_of t y (By o h x) = record { who = t; standing = standing_of y; by = case_of y.laps o h x } ∷ []
+abbrev waiter_of : Task → TaskState → Option Offer → List (m.Waiter Spot)
+waiter_of t y None = []
+waiter_of t y (Some g) = record { who = t; standing = standing_of y; by = case_of y.laps g.op g.hit g.miss } ∷ []
 
-waiter_by_lem : (t : Task) (y : TaskState) (r : Offer) → m.waiter_by t (standing_of y) (offered y.laps r) ≡ waiter_of t y r
+waiter_by_lem : (t : Task) (y : TaskState) (r : Option Offer) → m.waiter_by t (standing_of y) (offered y.laps r) ≡ waiter_of t y r
 unfolding m.waiter_by
-waiter_by_lem t y Nothing = refl
-waiter_by_lem t y (By o h x) = refl
+waiter_by_lem t y None = refl
+waiter_by_lem t y (Some g) = refl
 
-waiter_more : (t : Task) (y : TaskState) (r : Offer) (rest : List (m.Waiter Spot)) → length (waiter_of t y r ++ rest) ≡ w.one (w.is_offer r) + length rest
-waiter_more t y Nothing rest = omega arith
-waiter_more t y (By o h x) rest = omega arith
+waiter_more : (t : Task) (y : TaskState) (r : Option Offer) (rest : List (m.Waiter Spot)) → length (waiter_of t y r ++ rest) ≡ w.one (w.is_offer r) + length rest
+waiter_more t y None rest = omega arith
+waiter_more t y (Some g) rest = omega arith
 
 -- Whom the walk finds first is the meaning's first.
-abbrev pub HeadIs : Records → Found → List (m.Waiter Spot) → Type 0
-HeadIs s Nobody [] = Unit {0}
-HeadIs s Nobody (v ∷ vs) = ⊥
-HeadIs s (At t o h x) [] = ⊥
-HeadIs s (At t o h x) (v ∷ vs) = v ≡ record { who = t; standing = standing_of (task_in s.tasks t); by = case_of (task_in s.tasks t).laps o h x }
+abbrev pub HeadIs : Records → Option Waiter → List (m.Waiter Spot) → Type 0
+HeadIs s None [] = Unit {0}
+HeadIs s None (v ∷ vs) = ⊥
+HeadIs s (Some f) [] = ⊥
+HeadIs s (Some f) (v ∷ vs) = v ≡ record { who = f.task; standing = standing_of (task_in s.tasks f.task); by = case_of (task_in s.tasks f.task).laps f.offer.op f.offer.hit f.offer.miss }
 
 -- What holds of every task of a list holds of the one found there.
-abbrev pub FoundHas : (Task → Type 0) → Found → Type 0
-FoundHas Q Nobody = Unit {0}
-FoundHas Q (At t o h x) = Q t
+abbrev pub FoundHas : (Task → Type 0) → Option Waiter → Type 0
+FoundHas Q None = Unit {0}
+FoundHas Q (Some f) = Q f.task
 
-pub found_has : (Q : Task → Type 0) (f : Task → Offer) (ts : List Task) → All Q ts → FoundHas Q (w.first_of f ts)
+pub found_has : (Q : Task → Type 0) (f : Task → Option Offer) (ts : List Task) → All Q ts → FoundHas Q (w.first_of f ts)
 found_has Q f [] h = tt
 found_has Q f (t ∷ ts) h = go (f t) (found_has Q f ts h.1)
   where
-    go : (r : Offer) → FoundHas Q (w.first_of f ts) → FoundHas Q (w.found_by t r (w.first_of f ts))
-    go Nothing e = e
-    go (By o i x) e = h.0
+    go : (r : Option Offer) → FoundHas Q (w.first_of f ts) → FoundHas Q (w.found_by t r (w.first_of f ts))
+    go None e = e
+    go (Some g) e = h.0
 
 -- Every one is a task's number.
 abbrev pub Named : Records → List Task → Type 0
@@ -138,10 +139,10 @@ module _ (rs : List ℕ) (s : Records) (side : Side) (c : Chan) where
   head_is [] = tt
   head_is (t ∷ ts) = go (w.waits_at rs s side c t) (head_is ts)
     where
-      go : (r : Offer) → HeadIs s (w.first_of (w.waits_at rs s side c) ts) (walked ts)
+      go : (r : Option Offer) → HeadIs s (w.first_of (w.waits_at rs s side c) ts) (walked ts)
           → HeadIs s (w.found_by t r (w.first_of (w.waits_at rs s side c) ts)) (waiter_of t (task_in s.tasks t) r ++ walked ts)
-      go Nothing e = e
-      go (By o q k) e = refl
+      go None e = e
+      go (Some g) e = refl
 
   pub waiters_are : s.taskcount ≤ task_limit → length s.tasks ≡ task_limit → (ts : List Task) → Named s ts
       → m.waiters_in (image_look (rows_in rs)) (w.serves side c) (map standing_of (take s.taskcount s.tasks)) ts ≡ walked ts
@@ -286,13 +287,13 @@ module _ (rs : List ℕ) (s : Records) (few : s.taskcount ≤ task_limit) (c : C
   wake_each [] h xs o l = refl
   wake_each (t ∷ ts) h xs o l = go (w.waits_at rs s Receiving c t) (omega (arith, h.0)) (wake_each ts h.1)
     where
-      go : (r : Offer) → t.0 < task_limit → Woken ts
+      go : (r : Option Offer) → t.0 < task_limit → Woken ts
           → m.wake_all (waiter_of t (task_in s.tasks t) r ++ wakers ts) (seen_as xs o)
           ≡ seen_as (awake ts (woken_by rs s c t r xs)) (drops sleeps ts (drop_if (not (w.is_offer r)) t o))
-      go Nothing n i = i xs o l
-      go (By q j miss) n i =
-          let y : TaskState = got_task (task_in xs t) 0 false miss in
-          let got : List ℕ → TaskState = λ k. record { status = Able; ok = false; register = 0; row = miss; laps = k } in
+      go None n i = i xs o l
+      go (Some g) n i =
+          let y : TaskState = got_task (task_in xs t) 0 false g.miss in
+          let got : List ℕ → TaskState = λ k. record { status = Able; ok = false; register = 0; row = g.miss; laps = k } in
           let same : standing_of (got (task_in s.tasks t).laps) ≡ standing_of y = ap (λ k. standing_of (got k)) (sym (l t)) in
           ap (λ k. m.wake_all (wakers ts) (record { tasks = k; order = m.without t o; channels = cs; fault = fault; named = named; stamp = stamp }))
           (ap (set (map standing_of (take s.taskcount xs)) t.0) same ∙ sym (task_set s.taskcount xs t y n))

@@ -3,4 +3,4 @@ use borrow.Author.Rules.{rules}
 use Rattle.machine_order.proofs.join.Goals as goal
 
 pub returns : goal.returns
-returns c = join_made c.args.words.now c.args.cells.now (search rules) c.args.t
+returns c = join_made c.args.state.now.words c.args.state.now.cells (search rules) c.args.t

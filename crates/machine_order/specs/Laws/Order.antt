@@ -1,6 +1,6 @@
 -- What the arrays read as where cells of the order are set.
-use Rattle.std.specs.Prelude.{◌≡◌, refl, not, List, ℕ, zero, suc, ◌+◌, ◌%◌, ◌<◌, ◌≤◌, take}
-use Rattle.std.proofs.Common.{sym, ap, ◌∙◌, append-nil, mod-lt, arith, eq-eqb, ne_eqb, length-set, length-take, drop_of_length-le, take-suc}
+use Rattle.std.specs.Prelude.{◌≡◌, refl, true, false, List, ℕ, zero, suc, ◌+◌, ◌%◌, ◌<◌, ◌≤◌, take}
+use Rattle.std.proofs.Common.{sym, ap, ◌∙◌, append-nil, mod-lt, arith, length-set, length-take, drop_of_length-le, take-suc}
 use Rattle.std.proofs.Math.ListN.{length, get_or, set}
 use Rattle.std.proofs.Math.Seq.{get_or-set_same, get_or-set_other}
 use Rattle.machine_order.specs.Kinds.{Task}
@@ -9,12 +9,12 @@ use Rattle.meaning.specs.Bytes.{tabulate}
 use Rattle.machine_records.specs.Cells.{over, keep}
 use Rattle.machine_records.specs.Laws.Cells.{over_snoc_at, lap_keeps, lap_drops}
 use Rattle.machine_records.specs.Records.{other, no_tasks, with_order, joined}
-use Rattle.machine_store.specs.Store.{name_of, records_in, Plain, Made}
+use Rattle.machine_store.specs.Store.{name_of, records_in, state_in, Plain, Made}
 use Rattle.machine_store.specs.Laws.Tables.{table_set, table-length, take_whole, past2, first2, second2}
 use Rattle.machine_store.specs.Laws.Store.{tasks_same, chans_same, order_same, plain_set}
 
 -- A task behind the others.
-pub join_made : (w c : List ℕ) → length c ≡ 181 → (t : Task) → Made w c w (set (set c (32 + get_or c 176 0 % 16) t.0) 176 (get_or c 176 0 % 16 + 1)) (λ s. joined s t)
+pub join_made : (w c : List ℕ) → length c ≡ 181 → (t : Task) → Made (state_in w c) (state_in w (set (set c (32 + get_or c 176 0 % 16) t.0) 176 (get_or c 176 0 % 16 + 1))) (λ s. joined s t)
 unfolding records_in
 join_made w c lc t =
     let h : get_or c 176 0 % 16 < 16 = mod-lt (get_or c 176 0) {m = 16} (omega arith) in
@@ -37,6 +37,7 @@ join_made w c lc t =
         second2 c (32 + i) t.0 176 n (omega arith),
       );
       plain = λ z. q (p z);
+      whole = λ z. (z.0, length-set (set c (32 + i) t.0) 176 n ∙ length-set c (32 + i) t.0 ∙ z.1);
     }
 
 -- The cells after the first j places of an order are written.
@@ -72,7 +73,7 @@ module _ (w c : List ℕ) (lc : length c ≡ 181) (o : List Task) (lo : length o
       ∙ rw (drop_of_length-le (tabulate (name_of c) 16 0) {i = length (take 16 o)} (rw (table-length (name_of c) 16 0) (simp length-take (omega arith))))
       (append-nil (take 16 o) ∙ take_whole o 16 (omega arith))
 
-  pub order_made : (n : ℕ) → Made w c w (set (written c o 16) 176 n) (λ s. with_order s o n)
+  pub order_made : (n : ℕ) → Made (state_in w c) (state_in w (set (written c o 16) 176 n)) (λ s. with_order s o n)
   unfolding records_in
   order_made n =
       let l : length (written c o 16) ≡ length c = length-written 16 in
@@ -91,6 +92,7 @@ module _ (w c : List ℕ) (lc : length c ≡ 181) (o : List Task) (lo : length o
           get_or-set_same (written c o 16) 176 n 0 (omega arith),
         );
         plain = λ p. plain_set (written c o 16) 176 n (λ a. absurd (omega arith)) (λ a b. absurd (omega arith)) (λ a b. absurd (omega arith)) (written_plain 16 (omega arith) p);
+        whole = λ z. (z.0, length-set (written c o 16) 176 n ∙ l ∙ z.1);
       }
 
 -- One lap of the walk that keeps every task but t: x stands at place i.
@@ -101,10 +103,10 @@ module _ (t : Task) (l kept : List Task) (w i : ℕ) (x : Task) (hl : length l �
       let e : i % 16 ≡ i = omega arith in
       ap (λ n. get_or l n (task_no 0)) (sym e) ∙ sym ex
 
-  pub leave_keeps : (t.0 ≡ x.0 → ⊥) → (set kept w x ≡ over (keep (other t) (take (i + 1) l)) no_tasks) × (w + 1 ≡ length (keep (other t) (take (i + 1) l)))
+  pub leave_keeps : other t x ≡ true → (set kept w x ≡ over (keep (other t) (take (i + 1) l)) no_tasks) × (w + 1 ≡ length (keep (other t) (take (i + 1) l)))
   leave_keeps d =
-      let k = lap_keeps (other t) l no_tasks kept w i (task_no 0) (omega arith) (omega arith) ho hw (rw here (ap not (ne_eqb _ _ d))) in
+      let k = lap_keeps (other t) l no_tasks kept w i (task_no 0) (omega arith) (omega arith) ho hw (rw here d) in
       (ap (set kept w) (sym here) ∙ k.0, k.1)
 
-  pub leave_drops : t.0 ≡ x.0 → (kept ≡ over (keep (other t) (take (i + 1) l)) no_tasks) × (w ≡ length (keep (other t) (take (i + 1) l)))
-  leave_drops d = lap_drops (other t) l no_tasks kept w i (task_no 0) (omega arith) (omega arith) ho hw (rw here (ap not (eq-eqb _ _ d)))
+  pub leave_drops : other t x ≡ false → (kept ≡ over (keep (other t) (take (i + 1) l)) no_tasks) × (w ≡ length (keep (other t) (take (i + 1) l)))
+  leave_drops d = lap_drops (other t) l no_tasks kept w i (task_no 0) (omega arith) (omega arith) ho hw (rw here d)

@@ -1,3 +1,4 @@
+use borrow.Author.Rules.{rules}
 use Rattle.machine_select.proofs.Laws.{offer_at, offer_none}
 use Rattle.machine_select.proofs.case_offer.Goals as goal
 
@@ -15,4 +16,4 @@ returns-in-11 c =
 
 pub returns-in_default : goal.returns-in_default
 returns-in_default c =
-    offer_none c.args.body.now c.args.n c.fields_no-f.result c.fields_no-f.ensures c.in_default.in_default-own.rest.0.0.1 c.in_default.in_default-own.rest.0.1 c.in_default.in_default-own.rest.1
+    offer_none c.args.body.now c.args.n c.fields_no-f.result c.fields_no-f.ensures (search rules) (search rules) (search rules)

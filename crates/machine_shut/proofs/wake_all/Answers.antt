@@ -1,43 +1,54 @@
-use mathlib.Core.Path.{refl, ap, ◌∙◌}
-use Prim.Native.Nat.{◌%◌}
-use native.Mathlib.Omega.{arith}
+use mathlib.Core.Path.{ap, ◌∙◌}
 use lib.ListN.{get_or}
+use Prim.Native.Nat.{◌%◌, ◌<◌}
 use Rattle.meaning.specs.Image.{task_no}
 use Rattle.machine_records.specs.Records.{Records}
-use Rattle.machine_store.specs.Store.{records_in}
+use Rattle.machine_store.specs.Store.{records_of}
 use Rattle.machine_store.specs.Laws.Store.{order_length}
-use Rattle.machine_shut.specs.Laws.Moves.{walked_none, walked_wakes, walked_keeps, others_same, walked_all}
+use Rattle.machine_shut.specs.Laws.Moves.{walked_wakes, walked_keeps, others_same, walked_all}
 use borrow.Author.Rules.{rules}
+use Rattle.machine_shut.proofs.wake_all.Goals.{in-Some, in-None}
 use Rattle.machine_shut.proofs.wake_all.Goals as goal
-
-pub loop-i-init : goal.loop-i-init
-loop-i-init c = (search rules, (search rules, (rw c.waiting_in.ensures, (refl, ((λ p. p), λ s b. walked_none c.args.body.now c.args.c s _)))))
-
-pub loop-i-preserved-in-To : goal.loop-i-preserved-in-To
-loop-i-preserved-in-To c =
-    let l = c.loop-i in (
-      search rules,
-      (
-        search rules,
-        (
-          l.invariant.1.1.0,
-          (
-            others_same (records_in c.args.words.now c.args.cells.now) (records_in l.words l.cells) _ _ c.task_got.ensures.same l.invariant.1.1.1.0,
-            (
-              (λ p. c.task_got.ensures.plain (l.invariant.1.1.1.1.0 p)),
-              λ s b. walked_wakes c.args.body.now c.args.c s (records_in c.args.words.now c.args.cells.now) c.args.before.now b (order_length c.args.words.now c.args.cells.now) c.loop-i.i (omega (arith, c.loop-i.invariant.1.1.0)) c.name_at-t.result (c.name_at-t.ensures ∙ ap (λ (z : Records). get_or z.order (c.loop-i.i % 16) (task_no 0)) c.loop-i.invariant.1.1.1.0) c.row_at-row.result c.row_at-row.ensures c.missed_at-f.result c.missed_at-f.ensures _ _ c.loop-i.kept c.loop-i.w (c.loop-i.invariant.1.1.1.1.1 s b) _ c.in-To.is _ (ap (λ (z : Records). z.tasks) c.task_got.ensures.same),
-            ),
-          ),
-        ),
-      ),
-    )
 
 pub loop-i-preserved : goal.loop-i-preserved
 loop-i-preserved c =
+    let a = c.args in
     let l = c.loop-i in
-    (search rules, (search rules, (l.invariant.1.1.0, (l.invariant.1.1.1.0, (l.invariant.1.1.1.1.0, λ s b. walked_keeps c.args.body.now c.args.c s (records_in c.args.words.now c.args.cells.now) c.args.before.now b (order_length c.args.words.now c.args.cells.now) c.loop-i.i (omega (arith, c.loop-i.invariant.1.1.0)) c.name_at-t.result (c.name_at-t.ensures ∙ ap (λ (z : Records). get_or z.order (c.loop-i.i % 16) (task_no 0)) c.loop-i.invariant.1.1.1.0) c.row_at-row.result c.row_at-row.ensures c.missed_at-f.result c.missed_at-f.ensures _ _ c.loop-i.kept c.loop-i.w (c.loop-i.invariant.1.1.1.1.1 s b) c.in-Nowhere.is)))))
+    let z = records_of a.state.now in
+    let named = c.name-t.ensures ∙ ap (λ (y : Records). get_or y.order (l.i % 16) (task_no 0)) l.invariant.1.1.0 in
+    let order_long = order_length a.state.now.words a.state.now.cells in
+    let within : l.i < z.waiting % 17 = search rules in
+    elim c.match-missed_at.branch [
+      | in-Some w ↦ rw (w.state-is, w.kept-is, w.w-is) (
+        search rules,
+        (
+          l.invariant.1.0,
+          (
+            others_same z (records_of l.state) _ _ w.got.ensures.same l.invariant.1.1.0,
+            (
+              (λ p. w.got.ensures.plain (l.invariant.1.1.1.0 p)),
+              ((λ p. w.got.ensures.whole (l.invariant.1.1.1.1.0 p)), λ s b. walked_wakes a.body.now a.c s z a.before.now b order_long l.i within c.name-t.result named c.row_in.result c.row_in.ensures c.missed_at.result c.missed_at.ensures _ _ l.kept l.w (l.invariant.1.1.1.1.1 s b) _ w.in-Some.is _ (ap (λ (y : Records). y.tasks) w.got.ensures.same)),
+            ),
+          ),
+        ),
+      )
+      | in-None w ↦ rw (w.state-is, w.kept-is, w.w-is) (
+        search rules,
+        (
+          l.invariant.1.0,
+          (
+            l.invariant.1.1.0,
+            (
+              l.invariant.1.1.1.0,
+              (l.invariant.1.1.1.1.0, λ s b. walked_keeps a.body.now a.c s z a.before.now b order_long l.i within c.name-t.result named c.row_in.result c.row_in.ensures c.missed_at.result c.missed_at.ensures _ _ l.kept l.w (l.invariant.1.1.1.1.1 s b) w.in-None.is),
+            ),
+          ),
+        ),
+      )
+    ]
 
 pub returns : goal.returns
 returns c =
+    let a = c.args in
     let l = c.loop-i in
-    λ s b. walked_all c.args.body.now c.args.c s c.args.before.now c.args.words.now c.args.cells.now _ _ _ _ b l.i (omega (arith, l.invariant.1.1.0)) l.invariant.1.1.1.0 l.invariant.1.1.1.1.0 l.kept l.w (l.invariant.1.1.1.1.1 s b) c.put_order.ensures _ (omega arith)
+    λ s b. walked_all a.body.now a.c s a.before.now a.state.now l.state _ b l.i (search rules) l.invariant.1.1.0 l.invariant.1.1.1.0 l.invariant.1.1.1.1.0 l.kept l.w (l.invariant.1.1.1.1.1 s b) c.put_order.ensures _ (search rules)

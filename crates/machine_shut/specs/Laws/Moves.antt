@@ -1,5 +1,5 @@
 -- The walk of a close, lap by lap.
-use Rattle.std.specs.Prelude.{◌≡◌, refl, Bool, true, false, not, List, [], ◌∷◌, ℕ, suc, ◌+◌, ◌-◌, ◌%◌, ◌<◌, get_or, set, take, drop}
+use Rattle.std.specs.Prelude.{◌≡◌, refl, Bool, true, false, not, Option, Some, None, List, [], ◌∷◌, ℕ, suc, ◌+◌, ◌-◌, ◌%◌, ◌<◌, get_or, set, take, drop}
 use Rattle.std.proofs.Common.{sym, ap₂, ◌∙◌, drop_of_length-le, drop-cons}
 use Rattle.std.proofs.Math.Path.{ap}
 use Rattle.std.proofs.Math.Numerals.{add-one}
@@ -8,14 +8,14 @@ use native.Mathlib.Omega.{arith}
 use Rattle.std.proofs.Math.ListN.{length, length-take}
 use Rattle.std.proofs.Math.Seq.{get_or-take}
 use Rattle.machine_waiters.specs.Served.{miss_of}
-use Rattle.machine_shut.specs.Kinds.{Task, Chan, Row, TaskState, Receiving, Offer, Nothing, By, Miss}
+use Rattle.machine_shut.specs.Kinds.{Task, Chan, Row, TaskState, Receiving, Offer, State}
 use Rattle.meaning.specs.Image.{task_no}
 use Rattle.machine_records.specs.Cells.{over, cons_if, keep}
 use Rattle.machine_records.specs.Laws.Cells.{lap_keeps, lap_drops}
 use Rattle.machine_records.specs.Records.{Records, task_in, order_of, got_task, no_tasks, with_tasks, with_order}
 use Rattle.machine_records.specs.Waiters.{is_offer, one, count_of, matched_at, waits_at, count_waiters}
 use Rattle.machine_records.specs.Plans.{idle, woken_by, woken_tasks}
-use Rattle.machine_store.specs.Store.{records_in, RowIn, Plain, Made}
+use Rattle.machine_store.specs.Store.{records_of, RowIn, Plain, Whole, Made}
 use Rattle.machine_store.specs.Laws.Store.{row_same, order_length}
 use Rattle.machine_shut.specs.Moves.{Began, WokenSo}
 
@@ -24,7 +24,7 @@ woken_or_kept : (b : Bool) (t : Task) (l : List Task) (n m : ℕ) → n + length
 woken_or_kept true t l n m h = omega (arith, h)
 woken_or_kept false t l n m h = omega (arith, h)
 
-counted : (f : Task → Offer) (ts : List Task) → count_of f ts + length (keep (λ t. not (is_offer (f t))) ts) ≡ length ts
+counted : (f : Task → Option Offer) (ts : List Task) → count_of f ts + length (keep (λ t. not (is_offer (f t))) ts) ≡ length ts
 counted f [] = omega arith
 counted f (t ∷ ts) = woken_or_kept (is_offer (f t)) t (keep (λ u. not (is_offer (f u))) ts) (count_of f ts) (length ts) (counted f ts)
 
@@ -55,26 +55,26 @@ pub walked_none : (rs : List ℕ) (c : Chan) (s : Records) (xs : List TaskState)
 walked_none rs c s xs = record { kept_are = refl; kept_count = refl; woken_are = refl }
 
 -- An offer by where it leads with ok off.
-none_offered : (g : Offer) → miss_of g ≡ Miss.Nowhere → not (is_offer g) ≡ true
-none_offered Nothing e = refl
-none_offered (By o h m) e = absurd (let z : ◌≡◌ {A = ℕ} 0 1 = cc in omega (arith, z))
+none_offered : (g : Option Offer) → miss_of g ≡ None → not (is_offer g) ≡ true
+none_offered None e = refl
+none_offered (Some g) e = absurd (let z : ◌≡◌ {A = ℕ} 0 1 = cc in omega (arith, z))
 
-some_offered : (g : Offer) (miss : Row) → miss_of g ≡ Miss.To miss → not (is_offer g) ≡ false
-some_offered Nothing miss e = absurd (let z : ◌≡◌ {A = ℕ} 0 1 = cc in omega (arith, z))
-some_offered (By o h m) miss e = refl
+some_offered : (g : Option Offer) (miss : Row) → miss_of g ≡ Some miss → not (is_offer g) ≡ false
+some_offered None miss e = absurd (let z : ◌≡◌ {A = ℕ} 0 1 = cc in omega (arith, z))
+some_offered (Some g) miss e = refl
 
 module _ (rs : List ℕ) (s : Records) (c : Chan) (t : Task) (xs : List TaskState) where
-  none_woken : (g : Offer) → miss_of g ≡ Miss.Nowhere → woken_by rs s c t g xs ≡ xs
-  none_woken Nothing e = refl
-  none_woken (By o h m) e = absurd (let z : ◌≡◌ {A = ℕ} 0 1 = cc in omega (arith, z))
+  none_woken : (g : Option Offer) → miss_of g ≡ None → woken_by rs s c t g xs ≡ xs
+  none_woken None e = refl
+  none_woken (Some g) e = absurd (let z : ◌≡◌ {A = ℕ} 0 1 = cc in omega (arith, z))
 
-  some_woken : (g : Offer) (miss : Row) → miss_of g ≡ Miss.To miss → woken_by rs s c t g xs ≡ set xs (t.0 % 16) (got_task (task_in xs t) 0 false miss)
-  some_woken Nothing miss e = absurd (let z : ◌≡◌ {A = ℕ} 0 1 = cc in omega (arith, z))
-  some_woken (By o h m) miss e = (let q : m ≡ miss = cc in rw q)
+  some_woken : (g : Option Offer) (miss : Row) → miss_of g ≡ Some miss → woken_by rs s c t g xs ≡ set xs (t.0 % 16) (got_task (task_in xs t) 0 false miss)
+  some_woken None miss e = absurd (let z : ◌≡◌ {A = ℕ} 0 1 = cc in omega (arith, z))
+  some_woken (Some g) miss e = (let q : g.miss ≡ miss = cc in rw q)
 
 -- One lap: the task t stands at place i, and at a row that leads on with ok off as f says.
 module _ (rs : List ℕ) (c : Chan) (s z : Records) (before : List ℕ) (b : Began before s z) (l16 : length z.order ≡ 16) (i : ℕ) (h : i < z.waiting % 17)
-    (t : Task) (et : t ≡ get_or z.order (i % 16) (task_no 0)) (row : Row) (er : RowIn before t row) (f : Miss) (ef : f ≡ miss_of (matched_at rs Receiving c row))
+    (t : Task) (et : t ≡ get_or z.order (i % 16) (task_no 0)) (row : Row) (er : RowIn before t row) (f : Option Row) (ef : f ≡ miss_of (matched_at rs Receiving c row))
     (xs₀ xs : List TaskState) (kept : List Task) (w : ℕ) (p : WalkedSo rs c s xs₀ xs kept w i) where
   small : i < 16
   small =
@@ -101,7 +101,7 @@ module _ (rs : List ℕ) (c : Chan) (s z : Records) (before : List ℕ) (b : Beg
   idle_is : (q : Bool) → not (is_offer (waits_at rs s Receiving c t)) ≡ q → idle rs s c (get_or s.order i (task_no 0)) ≡ q
   idle_is q e = ap (idle rs s c) here ∙ e
 
-  pub walked_keeps : f ≡ Miss.Nowhere → WalkedSo rs c s xs₀ xs (set kept w t) (w + 1) (i + 1)
+  pub walked_keeps : f ≡ None → WalkedSo rs c s xs₀ xs (set kept w t) (w + 1) (i + 1)
   walked_keeps e =
       let k = lap_keeps (idle rs s c) s.order no_tasks kept w i (task_no 0) (omega (arith, small, long)) (omega (arith, small)) p.kept_are p.kept_count (idle_is true (none_offered (waits_at rs s Receiving c t) (misses ∙ e))) in
       record {
@@ -110,7 +110,7 @@ module _ (rs : List ℕ) (c : Chan) (s z : Records) (before : List ℕ) (b : Beg
         woken_are = p.woken_are ∙ woken_lap rs s c long i t xs within named ∙ ap (woken_tasks rs s c (drop (i + 1) (order_of s))) (none_woken rs s c t xs (waits_at rs s Receiving c t) (misses ∙ e));
       }
 
-  pub walked_wakes : (miss : Row) → f ≡ Miss.To miss → (new : List TaskState) → new ≡ set xs (t.0 % 16) (got_task (task_in xs t) 0 false miss) → WalkedSo rs c s xs₀ new kept w (i + 1)
+  pub walked_wakes : (miss : Row) → f ≡ Some miss → (new : List TaskState) → new ≡ set xs (t.0 % 16) (got_task (task_in xs t) 0 false miss) → WalkedSo rs c s xs₀ new kept w (i + 1)
   walked_wakes miss e new en =
       let k = lap_drops (idle rs s c) s.order no_tasks kept w i (task_no 0) (omega (arith, small, long)) (omega (arith, small)) p.kept_are p.kept_count (idle_is false (some_offered (waits_at rs s Receiving c t) miss (misses ∙ e))) in
       record {
@@ -124,15 +124,15 @@ pub others_same : (z y x : Records) (xs : List TaskState) → x ≡ with_tasks y
 others_same z y x xs e q = e ∙ ap (λ r. with_tasks r xs) q ∙ ap (with_tasks z) (sym (ap (λ (r : Records). r.tasks) e))
 
 -- The whole walk, and the order put anew.
-module _ (rs : List ℕ) (c : Chan) (s : Records) (before w₀ x₀ w x w' x' : List ℕ) (b : Began before s (records_in w₀ x₀)) (i : ℕ) (e : i ≡ (records_in w₀ x₀).waiting % 17)
-    (same : records_in w x ≡ with_tasks (records_in w₀ x₀) (records_in w x).tasks) (plain : Plain x₀ → Plain x) (kept : List Task) (n : ℕ)
-    (p : WalkedSo rs c s (records_in w₀ x₀).tasks (records_in w x).tasks kept n i) (q : Made w x w' x' (λ z. with_order z kept n)) where
+module _ (rs : List ℕ) (c : Chan) (s : Records) (before : List ℕ) (x₀ x y : State) (b : Began before s (records_of x₀)) (i : ℕ) (e : i ≡ (records_of x₀).waiting % 17)
+    (same : records_of x ≡ with_tasks (records_of x₀) (records_of x).tasks) (plain : Plain x₀.cells → Plain x.cells) (wholly : Whole x₀ → Whole x) (kept : List Task) (n : ℕ)
+    (p : WalkedSo rs c s (records_of x₀).tasks (records_of x).tasks kept n i) (q : Made x y (λ z. with_order z kept n)) where
   whole : i ≡ s.waiting % 17
   whole = e ∙ ap (λ (m : ℕ). m % 17) (sym b.waiting)
 
-  all_woken : woken_tasks rs s c (order_of s) (records_in w₀ x₀).tasks ≡ (records_in w x).tasks
+  all_woken : woken_tasks rs s c (order_of s) (records_of x₀).tasks ≡ (records_of x).tasks
   unfolding woken_tasks
-  all_woken = p.woken_are ∙ ap (λ ts. woken_tasks rs s c ts (records_in w x).tasks) (drop_of_length-le (order_of s) {i = i} (omega (arith, whole, length-take (s.waiting % 17) s.order)))
+  all_woken = p.woken_are ∙ ap (λ ts. woken_tasks rs s c ts (records_of x).tasks) (drop_of_length-le (order_of s) {i = i} (omega (arith, whole, length-take (s.waiting % 17) s.order)))
 
   order_are : kept ≡ over (keep (idle rs s c) (order_of s)) no_tasks
   order_are = p.kept_are ∙ ap (λ m. over (keep (idle rs s c) (take m s.order)) no_tasks) whole
@@ -140,16 +140,17 @@ module _ (rs : List ℕ) (c : Chan) (s : Records) (before w₀ x₀ w x w' x' : 
   order_count : n ≡ length (keep (idle rs s c) (order_of s))
   order_count = p.kept_count ∙ ap (λ m. length (keep (idle rs s c) (take m s.order))) whole
 
-  pub walked_all : (m : ℕ) → m ≡ i - n → WokenSo rs c s w₀ x₀ w' x' m
+  pub walked_all : (m : ℕ) → m ≡ i - n → WokenSo rs c s x₀ y m
   walked_all m em = record {
     made = record {
-      same = q.same ∙ ap (λ z. with_order z kept n) (same ∙ ap (with_tasks (records_in w₀ x₀)) (sym all_woken))
-          ∙ ap₂ (with_order (with_tasks (records_in w₀ x₀) (woken_tasks rs s c (order_of s) (records_in w₀ x₀).tasks))) order_are order_count;
+      same = q.same ∙ ap (λ z. with_order z kept n) (same ∙ ap (with_tasks (records_of x₀)) (sym all_woken))
+          ∙ ap₂ (with_order (with_tasks (records_of x₀) (woken_tasks rs s c (order_of s) (records_of x₀).tasks))) order_are order_count;
       plain = λ z. q.plain (plain z);
+      whole = λ z. q.whole (wholly z);
     };
-    counted = em ∙ ap₂ (λ (a d : ℕ). a - d) whole order_count ∙ woken_count rs s c (ap (λ (o : List Task). length o) b.order ∙ order_length w₀ x₀);
+    counted = em ∙ ap₂ (λ (a d : ℕ). a - d) whole order_count ∙ woken_count rs s c (ap (λ (o : List Task). length o) b.order ∙ order_length x₀.words x₀.cells);
   }
 
 -- A turn's first changes leave the order as it was.
-pub began_here : {w x v y : List ℕ} {f : Records → Records} → Made w x v y f → (f (records_in w x)).order ≡ (records_in w x).order → (f (records_in w x)).waiting ≡ (records_in w x).waiting → Began w (records_in w x) (records_in v y)
-began_here {w} {x} p o n = record { rows = λ t d. row_same w x d t; order = sym (ap (λ (z : Records). z.order) p.same ∙ o); waiting = sym (ap (λ (z : Records). z.waiting) p.same ∙ n) }
+pub began_here : {x y : State} {f : Records → Records} → Made x y f → (f (records_of x)).order ≡ (records_of x).order → (f (records_of x)).waiting ≡ (records_of x).waiting → Began x.words (records_of x) (records_of y)
+began_here {x} p o n = record { rows = λ t d. row_same x.words x.cells d t; order = sym (ap (λ (z : Records). z.order) p.same ∙ o); waiting = sym (ap (λ (z : Records). z.waiting) p.same ∙ n) }

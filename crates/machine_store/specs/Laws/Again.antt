@@ -7,11 +7,12 @@ use Rattle.std.proofs.Math.Nat.{zero-add}
 use native.Mathlib.Omega.{arith}
 use Rattle.std.proofs.Math.ListN.{get_or-append}
 use Rattle.machine_store.specs.Kinds.{Status, TaskState, ChanState}
+use Rattle.meaning.specs.Statuses.{status_number, status_of}
 use Rattle.meaning.specs.Image.{task_no}
 use Rattle.meaning.specs.Bytes.{tabulate}
 use Rattle.machine_records.specs.Records.{Records, blank_task, blank_chan}
 use Rattle.machine_records.specs.Laws.Sized.{Sized}
-use Rattle.machine_store.specs.Store.{status_of, status_no, mark_of, mark_no, task_of, chan_of, name_of, records_in, words_of, cells_of, Plain}
+use Rattle.machine_store.specs.Store.{mark_of, mark_no, task_of, chan_of, name_of, records_in, words_of, cells_of, Plain}
 use Rattle.machine_store.specs.Laws.Tables.{table_same, table_at, table-length}
 use Rattle.machine_store.specs.Laws.Store.{status_again, status_most, mark_again, mark_most}
 
@@ -43,7 +44,7 @@ module _ {A : Type 0} where
 
 -- NUMBERS
 
-status_number_lem : (n : ℕ) → n ≤ 2 → status_no (status_of n) ≡ n
+status_number_lem : (n : ℕ) → n ≤ 2 → status_number (status_of n) ≡ n
 status_number_lem zero h = refl
 status_number_lem (suc zero) h = refl
 status_number_lem (suc (suc zero)) h = refl
@@ -86,7 +87,7 @@ module _ (s : Records) where
   spelled = spelled_with (tabulate spelled_task 16 0) (tabulate chan 16 0)
 
   abbrev read_task : ℕ → TaskState
-  read_task t = task_with t (status_of (status_no (task t).status)) (mark_of (mark_no (task t).ok))
+  read_task t = task_with t (status_of (status_number (task t).status)) (mark_of (mark_no (task t).ok))
 
   abbrev read_chan : ℕ → ChanState
   read_chan i = record { closed = mark_of (mark_no (chan i).closed); len = (chan i).len }
@@ -112,7 +113,7 @@ module _ (s : Records) where
   spelled_plain : Plain (cells_of spelled)
   unfolding cells_of tabulate
   spelled_plain = record {
-    statuses = λ t l. rw (← zero-add t, part_at cells (λ t. status_no (task t).status) 16 0 t 0 refl refl l) (status_most (task t).status);
+    statuses = λ t l. rw (← zero-add t, part_at cells (λ t. status_number (task t).status) 16 0 t 0 refl refl l) (status_most (task t).status);
     oks = λ t l. rw (part_at cells (λ t. mark_no (task t).ok) 16 16 t 0 refl refl l) (mark_most (task t).ok);
     closeds = λ k l. rw (part_at cells (λ k. mark_no (chan k).closed) 16 48 k 0 refl refl l) (mark_most (chan k).closed);
   }
@@ -160,7 +161,7 @@ module _ (w c : List ℕ) where
       ++ tabulate (λ k. mark (cell (48 + k))) 16 0
       ++ tabulate (λ i. cell (64 + i)) 117 0
 
-  cells_read : cells_of (records_in w c) ≡ cells_by (λ n. status_no (status_of n)) (λ n. mark_no (mark_of n))
+  cells_read : cells_of (records_in w c) ≡ cells_by (λ n. status_number (status_of n)) (λ n. mark_no (mark_of n))
   unfolding cells_of records_in tabulate
   cells_read = refl
 
@@ -170,7 +171,7 @@ module _ (w c : List ℕ) where
 
   pub cells_again : length c ≡ 181 → Plain c → cells_of (records_in w c) ≡ c
   cells_again e p =
-      let statuses = table_same cell (λ t. status_no (status_of (cell t))) 16 0 (λ t a h. status_number_lem (cell t) (p.statuses t h)) in
+      let statuses = table_same cell (λ t. status_number (status_of (cell t))) 16 0 (λ t a h. status_number_lem (cell t) (p.statuses t h)) in
       let oks = table_same (λ t. cell (16 + t)) (λ t. mark_no (mark_of (cell (16 + t)))) 16 0 (λ t a h. mark_number (cell (16 + t)) (p.oks t h)) in
       let closeds = table_same (λ k. cell (48 + k)) (λ k. mark_no (mark_of (cell (48 + k)))) 16 0 (λ k a h. mark_number (cell (48 + k)) (p.closeds k h)) in
       cells_read ∙ rw (statuses, oks, closeds) (cells_joined ∙ table_self c 0 181 e)

@@ -1,25 +1,26 @@
 -- What the two arrays read as where cells of one part are set and the others are as they were.
 use Rattle.std.specs.Prelude.{◌≡◌, ℕ, zero, suc, ◌+◌, ◌*◌, ◌%◌, ◌<◌, ◌≤◌, Bool, true, false, List, [], ◌∷◌, length, get_or, set, ◌≢◌, slice_index, slice_index_or, slice_set}
 use Rattle.std.proofs.Math.Path.{refl, ap}
-use Rattle.std.proofs.Common.{sym, ◌∙◌, zero-add, mod-lt, arith, get_or-set_same, get_or-set_other}
+use Rattle.std.proofs.Common.{sym, ◌∙◌, zero-add, mod-lt, arith, length-set, get_or-set_same, get_or-set_other}
 use Rattle.std.proofs.Math.Decide.{ℕ_discrete}
-use Rattle.machine_store.specs.Kinds.{Task, Chan, Row, Status, Able, Waiting, Ended, TaskState, ChanState, Moved, Event, Change}
+use Rattle.machine_store.specs.Kinds.{Task, Chan, Row, Status, Able, Waiting, Ended, TaskState, ChanState, Moved, Event, Change, State}
 use Rattle.meaning.specs.Numbers.{task_limit, channel_limit, depth_limit, stamp_modulus}
+use Rattle.meaning.specs.Statuses.{status_number, status_of}
 use Rattle.meaning.specs.Image.{row_no, task_no}
 use Rattle.meaning.specs.Bytes.{tabulate}
 use Rattle.machine_records.specs.Records.{Records, blank_task, blank_chan, task_in, chan_in, lap_of, got_task, went_task, stood_task, lap_task, with_tasks, halted, ticked, with_counts, with_chan, task_got, task_went, task_stood, task_lapped}
 use Rattle.machine_records.specs.Plans.{Done}
-use Rattle.machine_store.specs.Store.{status_of, status_no, mark_of, mark_no, laps_of, task_of, chan_of, name_of, records_in, Plain, Made, MadeTurn}
+use Rattle.machine_store.specs.Store.{mark_of, mark_no, laps_of, task_of, chan_of, name_of, records_in, records_of, state_in, Plain, Made, MadeTurn}
 use Rattle.machine_store.specs.Laws.Tables.{table_same, table_set, table_at, table-length, past2, first2, second2}
 
 -- NUMBERS
 
-pub status_again : (s : Status) → status_of (status_no s) ≡ s
+pub status_again : (s : Status) → status_of (status_number s) ≡ s
 status_again Able = refl
 status_again Waiting = refl
 status_again Ended = refl
 
-pub status_most : (s : Status) → status_no s ≤ 2
+pub status_most : (s : Status) → status_number s ≤ 2
 status_most Able = omega arith
 status_most Waiting = omega arith
 status_most Ended = omega arith
@@ -173,12 +174,12 @@ module _ (w c : List ℕ) (t : Task) where
   laps_same d p j h = table_same (λ k. slice_index c (80 + 6 * j + k)) (λ k. slice_index d (80 + 6 * j + k)) 6 0 (λ k e f. p (80 + 6 * j + k) (omega arith) (omega arith))
 
   module _ (lc : length c ≡ 181) where
-    pub stood_made : (st : Status) → Made w c w (slice_set c (t.0 % 16) (status_no st)) (λ s. task_stood s t st)
+    pub stood_made : (st : Status) → Made (state_in w c) (state_in w (slice_set c (t.0 % 16) (status_number st))) (λ s. task_stood s t st)
     stood_made st =
         let h = task_small in
         let i = t.0 % 16 in
-        let n = status_no st in
-        let past : (j : ℕ) → (j ≢ t.0 % 16) → slice_index (slice_set c (t.0 % 16) (status_no st)) j ≡ get_or c j 0 = λ j d. get_or-set_other c i j n 0 d in
+        let n = status_number st in
+        let past : (j : ℕ) → (j ≢ t.0 % 16) → slice_index (slice_set c (t.0 % 16) (status_number st)) j ≡ get_or c j 0 = λ j d. get_or-set_other c i j n 0 d in
         let laps = laps_same (slice_set c i n) (λ j a b. past j (λ e. omega arith)) in
         record {
           same = task_changed w c w (slice_set c i n) i h (stood_task (task_of w c i) st)
@@ -187,9 +188,10 @@ module _ (w c : List ℕ) (t : Task) where
               (λ j a b. past j (λ e. omega arith)) (λ j a b. past j (λ e. omega arith)) refl
               ∙ stood_here (λ x. stood_task x st);
           plain = plain_set c i n (λ a. status_most st) (λ a b. absurd (omega arith)) (λ a b. absurd (omega arith));
+          whole = λ z. (z.0, length-set c i n ∙ z.1);
         }
 
-    pub lapped_made : (d k : ℕ) → Made w c w (slice_set c (80 + 6 * (t.0 % 16) + d % 6) k) (λ s. task_lapped s t d k)
+    pub lapped_made : (d k : ℕ) → Made (state_in w c) (state_in w (slice_set c (80 + 6 * (t.0 % 16) + d % 6) k)) (λ s. task_lapped s t d k)
     lapped_made d k =
         let h = task_small in
         let i = t.0 % 16 in
@@ -208,10 +210,11 @@ module _ (w c : List ℕ) (t : Task) where
               (λ j p q. past j (λ e. omega arith)) (λ j p q. past j (λ e. omega arith)) refl
               ∙ stood_here (λ x. lap_task x d k);
           plain = plain_set c a k (λ p. absurd (omega arith)) (λ p q. absurd (omega arith)) (λ p q. absurd (omega arith));
+          whole = λ z. (z.0, length-set c a k ∙ z.1);
         }
 
     module _ (lw : length w ≡ 33) where
-      pub went_made : (r : Row) → Made w c (slice_set w (t.0 % 16) r.0) (slice_set c (t.0 % 16) (status_no Able)) (λ s. task_went s t r)
+      pub went_made : (r : Row) → Made (state_in w c) (state_in (slice_set w (t.0 % 16) r.0) (slice_set c (t.0 % 16) (status_number Able))) (λ s. task_went s t r)
       went_made r =
           let h = task_small in
           let i = t.0 % 16 in
@@ -225,9 +228,10 @@ module _ (w c : List ℕ) (t : Task) where
                 (λ j a b. past j (λ e. omega arith)) (λ j a b. past j (λ e. omega arith)) (wpast 32 (λ e. omega arith))
                 ∙ stood_here (λ x. went_task x r);
             plain = plain_set c i 0 (λ a. omega arith) (λ a b. omega arith) (λ a b. omega arith);
+            whole = λ z. (length-set w i r.0 ∙ z.0, length-set c i 0 ∙ z.1);
           }
 
-      pub got_made : (v : ℕ) (b : Bool) (r : Row) → Made w c (slice_set (slice_set w (t.0 % 16) r.0) (16 + t.0 % 16) v) (slice_set (slice_set c (t.0 % 16) (status_no Able)) (16 + t.0 % 16) (mark_no b)) (λ s. task_got s t v b r)
+      pub got_made : (v : ℕ) (b : Bool) (r : Row) → Made (state_in w c) (state_in (slice_set (slice_set w (t.0 % 16) r.0) (16 + t.0 % 16) v) (slice_set (slice_set c (t.0 % 16) (status_number Able)) (16 + t.0 % 16) (mark_no b))) (λ s. task_got s t v b r)
       got_made v b r =
           let h = task_small in
           let i = t.0 % 16 in
@@ -244,11 +248,12 @@ module _ (w c : List ℕ) (t : Task) where
                 (λ j a z. past j (λ e. omega arith) (λ e. omega arith)) (λ j a z. past j (λ e. omega arith) (λ e. omega arith)) (wpast 32 (λ e. omega arith) (λ e. omega arith))
                 ∙ stood_here (λ x. got_task x v b r);
             plain = λ z. q (p z);
+            whole = λ z. (length-set (slice_set w i r.0) (16 + i) v ∙ length-set w i r.0 ∙ z.0, length-set (slice_set c i 0) (16 + i) n ∙ length-set c i 0 ∙ z.1);
           }
 
 -- A CHANNEL'S RECORD, THE HALT RECORD, THE STAMP
 
-pub chan_made : (w c : List ℕ) → length c ≡ 181 → (k : Chan) (x : ChanState) → Made w c w (slice_set (slice_set c (48 + k.0 % 16) (mark_no x.closed)) (64 + k.0 % 16) x.len) (λ s. with_chan s k x)
+pub chan_made : (w c : List ℕ) → length c ≡ 181 → (k : Chan) (x : ChanState) → Made (state_in w c) (state_in w (slice_set (slice_set c (48 + k.0 % 16) (mark_no x.closed)) (64 + k.0 % 16) x.len)) (λ s. with_chan s k x)
 unfolding records_in
 chan_made w c lc k x =
     let h : k.0 % 16 < 16 = mod-lt k.0 {m = 16} (omega arith) in
@@ -274,9 +279,10 @@ chan_made w c lc k x =
         past 180 (λ e. omega arith) (λ e. omega arith),
       );
       plain = λ z. q (p z);
+      whole = λ z. (z.0, length-set (slice_set c (48 + i) n) (64 + i) m ∙ length-set c (48 + i) n ∙ z.1);
     }
 
-pub halt_made : (w c : List ℕ) → length c ≡ 181 → (f : ℕ) (t : Task) → Made w c w (slice_set (slice_set c 177 f) 178 t.0) (λ s. halted s f t)
+pub halt_made : (w c : List ℕ) → length c ≡ 181 → (f : ℕ) (t : Task) → Made (state_in w c) (state_in w (slice_set (slice_set c 177 f) 178 t.0)) (λ s. halted s f t)
 unfolding records_in
 halt_made w c lc f t =
     let n = t.0 in
@@ -296,9 +302,10 @@ halt_made w c lc f t =
         second2 c 177 f 178 n (omega arith),
       );
       plain = λ z. q (p z);
+      whole = λ z. (z.0, length-set (slice_set c 177 f) 178 n ∙ length-set c 177 f ∙ z.1);
     }
 
-pub counts_made : (w c : List ℕ) → length c ≡ 181 → (n m : ℕ) → Made w c w (slice_set (slice_set c 179 n) 180 m) (λ s. with_counts s n m)
+pub counts_made : (w c : List ℕ) → length c ≡ 181 → (n m : ℕ) → Made (state_in w c) (state_in w (slice_set (slice_set c 179 n) 180 m)) (λ s. with_counts s n m)
 unfolding records_in
 counts_made w c lc n m =
     let past : (j : ℕ) → (j ≢ 179) → (j ≢ 180) → slice_index (slice_set (slice_set c 179 n) 180 m) j ≡ get_or c j 0 = past2 c 179 n 180 m in
@@ -317,9 +324,10 @@ counts_made w c lc n m =
         second2 c 179 n 180 m (omega arith),
       );
       plain = λ z. q (p z);
+      whole = λ z. (z.0, length-set (slice_set c 179 n) 180 m ∙ length-set c 179 n ∙ z.1);
     }
 
-pub tick_made : (w c : List ℕ) → length w ≡ 33 → (n : ℕ) → n ≡ (slice_index w 32 + 1) % stamp_modulus → Made w c (slice_set w 32 n) c (λ s. ticked s)
+pub tick_made : (w c : List ℕ) → length w ≡ 33 → (n : ℕ) → n ≡ (slice_index w 32 + 1) % stamp_modulus → Made (state_in w c) (state_in (slice_set w 32 n) c) (λ s. ticked s)
 unfolding records_in
 tick_made w c lw n e = record {
   same = rw (
@@ -328,21 +336,26 @@ tick_made w c lw n e = record {
     e,
   );
   plain = λ z. z;
+  whole = λ z. (length-set w 32 n ∙ z.0, z.1);
 }
 
 -- ONE CHANGE BEHIND THE OTHER
 
-pub made_then : {w c v d u e : List ℕ} {f g : Records → Records} → Made w c v d f → Made v d u e g → Made w c u e (λ s. g (f s))
-made_then {g = g} p q = record { same = q.same ∙ ap g p.same; plain = λ z. q.plain (p.plain z) }
+pub made_then : {x y z : State} {f g : Records → Records} → Made x y f → Made y z g → Made x z (λ s. g (f s))
+made_then {g = g} p q = record { same = q.same ∙ ap g p.same; plain = λ a. q.plain (p.plain a); whole = λ a. q.whole (p.whole a) }
 
 -- The same change by another word.
-pub made_as : {w c v d : List ℕ} {f : Records → Records} (g : Records → Records) → Made w c v d f → f (records_in w c) ≡ g (records_in w c) → Made w c v d g
-made_as g p e = record { same = p.same ∙ e; plain = p.plain }
+pub made_as : {x y : State} {f : Records → Records} (g : Records → Records) → Made x y f → f (records_of x) ≡ g (records_of x) → Made x y g
+made_as g p e = record { same = p.same ∙ e; plain = p.plain; whole = p.whole }
 
 -- A turn whose changes are made, and its answer.
-pub made_turn : {w c v d : List ℕ} {f : Records → Records} (m : Moved) (e : Records → Event) (h : Records → Change) → Made w c v d f → m.event ≡ e (records_in w c) → m.change ≡ h (records_in w c)
-    → MadeTurn w c v d m (λ s. record { event = e s; after = f s; change = h s })
-made_turn {w} {c} {v} {d} {f} m e h p x y = record { same = rw (x, y, p.same); plain = p.plain }
+pub made_turn : {x y : State} {f : Records → Records} (m : Moved) (e : Records → Event) (h : Records → Change) → Made x y f → m.event ≡ e (records_of x) → m.change ≡ h (records_of x)
+    → MadeTurn x y m (λ s. record { event = e s; after = f s; change = h s })
+made_turn m e h p a b = record { same = rw (a, b, p.same); plain = p.plain; whole = p.whole }
 
-pub turn_as_lem : {w c v d : List ℕ} {m : Moved} {f : Records → Done} (g : Records → Done) → MadeTurn w c v d m f → f (records_in w c) ≡ g (records_in w c) → MadeTurn w c v d m g
-turn_as_lem g p e = record { same = p.same ∙ e; plain = p.plain }
+pub turn_as_lem : {x y : State} {m : Moved} {f : Records → Done} (g : Records → Done) → MadeTurn x y m f → f (records_of x) ≡ g (records_of x) → MadeTurn x y m g
+turn_as_lem g p e = record { same = p.same ∙ e; plain = p.plain; whole = p.whole }
+
+-- A turn whose last changes are a turn of their own.
+pub turn_then : {x y z : State} {m : Moved} {f : Records → Records} {g : Records → Done} → Made x y f → MadeTurn y z m g → MadeTurn x z m (λ s. g (f s))
+turn_then {g = g} p q = record { same = q.same ∙ ap g p.same; plain = λ a. q.plain (p.plain a); whole = λ a. q.whole (p.whole a) }

@@ -2,8 +2,9 @@
 -- one table, one claim, for the text and for the image read from its bytes. Behind it: what a listing does not show, and the bytes
 -- of images, each a table under a claim of its own.
 use Rattle.std.specs.Prelude.{◌≡◌, refl, Bool, true, false, List, [], ◌∷◌, ◌++◌, map, ℕ, suc, length}
-use Rattle.meaning.specs.Kinds.{Task, Port, Nil, On, Send, Forward, Recv, Status, Able, Waiting, Ended}
+use Rattle.meaning.specs.Kinds.{Task, Port, Nil, On, Send, Forward, Recv, Waiting, Ended}
 use Rattle.meaning.specs.Events.{numbers}
+use Rattle.meaning.specs.Statuses.{status_number}
 use Rattle.meaning.specs.Machine.{Standing, Channel, Machine, Turned, is_on, receives_on, sends_on, payload, without, wake_all, send_on, receive_on, close_on, choose, cases_of, first_case, waiter_by, add_if, waiter_at, waiters_in, waiters, send_to, receive_from, attempt, ready, act, turn_as, turn_of, turn_if, runs, fresh}
 use Rattle.meaning.specs.Machine as m
 use Rattle.meaning.specs.Bytes as b
@@ -38,11 +39,6 @@ chan c k n vs = c ∷ k ∷ n ∷ vs
 -- stamp and fault
 abbrev stamp : ℕ → ℕ → Line
 stamp s f = s ∷ f ∷ []
-
-abbrev status_number : Status → ℕ
-status_number Able = 0
-status_number Waiting = 1
-status_number Ended = 2
 
 abbrev flag : Bool → ℕ
 flag false = 0
