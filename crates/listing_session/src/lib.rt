@@ -18,7 +18,7 @@ use listing_lines::{
 };
 use machine::{start, turn};
 use machine_records::Change;
-use machine_store::{State, chan_at, chancount_in, fault_in, stamp_in, task_at, taskcount_in};
+use machine_store::State;
 use meaning::sizes::{CELLS, CHANS};
 use meaning::{Chan, Task};
 
@@ -84,13 +84,10 @@ pub fn begin(input: &[u8], image: &mut [u8]) -> Session
 pub fn line_count(s: Session) -> u32
     ensures { result ≡ line_count s }
 {
-    let a = s.answer;
     let state = s.state;
-    let words = state.words;
-    let cells = state.cells;
-    let tasks = taskcount_in(&words, &cells);
-    let chans = chancount_in(&words, &cells);
-    (pair_count(a) as u32) + (tasks as u32) + (chans as u32) + 1
+    let tasks = u32::from(state.task_count());
+    let channels = u32::from(state.channel_count());
+    u32::from(pair_count(s.answer)) + tasks + channels + 1
 }
 
 // THE LINES
@@ -99,23 +96,18 @@ pub fn line_count(s: Session) -> u32
 fn state_line(i: u32, s: State, values: [[u16; CELLS as usize]; CHANS as usize]) -> Line
     ensures { Shows result (state_line i s values) }
 {
-    let words = s.words;
-    let cells = s.cells;
-    let tasks = taskcount_in(&words, &cells) as u32;
+    let tasks = u32::from(s.task_count());
     if i < tasks {
         let task = Task((i % 256) as u8);
-        let x = task_at(&words, &cells, task);
-        return task_line(task, x);
+        return task_line(task, s.task(task));
     }
     let j = i - tasks;
-    if j < chancount_in(&words, &cells) as u32 {
+    if j < u32::from(s.channel_count()) {
         let chan = Chan((j % 256) as u8);
-        let x = chan_at(&words, &cells, chan);
-        let at = (chan.0 % CHANS) as usize;
-        let held = values[at];
-        return chan_line(chan, x, held);
+        let held = values[(chan.0 % CHANS) as usize];
+        return chan_line(chan, s.channel(chan), held);
     }
-    stamp_line(stamp_in(&words, &cells), fault_in(&words, &cells))
+    stamp_line(s.stamp(), s.fault())
 }
 
 // The line that stands alone where nothing runs.

@@ -8,7 +8,7 @@ use crate::lines::{
 use crate::record::{RECORD_SIZE, state_of, values_of};
 use machine::{fresh_values, start};
 use machine_schedule::schedule;
-use machine_store::{CHAN_COUNT, State, TASK_COUNT};
+use machine_store::State;
 use machine_turns::Outcome;
 use meaning::sizes::{CELLS, CHANS};
 use std::alloc::Global;
@@ -226,7 +226,7 @@ fn call(mut inputs: Inputs, due: &Due) -> Result<(), Difference> {
     }
     if let Some(record) = &due.record {
         let told = record.as_slice();
-        let state = state_of(told, before.cells[TASK_COUNT], before.cells[CHAN_COUNT]);
+        let state = state_of(told, before.task_count(), before.channel_count());
         if !is_same_state(state, done.state) || !are_same_values(values_of(told), values) {
             return Err(Difference::State);
         }

@@ -21,50 +21,45 @@ const CHANS_AT: u32 = 213;
 const CHAN_SIZE: u32 = 34;
 
 // A place of the order; and a task: status, ok mark, register (2), row (2), six laps.
-fn put_task(record: &[u8], t: u8, words: &mut [u16; STATE_WORDS], cells: &mut [u8; STATE_CELLS]) {
+fn put_task(record: &[u8], t: u8, state: &mut State) {
     let i = (t % TASKS) as usize;
     let at = TASKS_AT + TASK_SIZE * ((t % TASKS) as u32);
     let first = at as usize;
-    cells[ORDER + i] = byte_at(record, ORDER_AT + i);
-    cells[i] = byte_at(record, first);
-    cells[OK + i] = byte_at(record, first + 1);
-    words[REGISTER + i] = two_at(record, at + 2);
-    words[i] = two_at(record, at + 4);
-    let lap = LAP + (DEPTH as usize) * i;
-    cells[lap] = byte_at(record, first + 6);
-    cells[lap + 1] = byte_at(record, first + 7);
-    cells[lap + 2] = byte_at(record, first + 8);
-    cells[lap + 3] = byte_at(record, first + 9);
-    cells[lap + 4] = byte_at(record, first + 10);
-    cells[lap + 5] = byte_at(record, first + 11);
+    state.cells[ORDER + i] = byte_at(record, ORDER_AT + i);
+    state.cells[i] = byte_at(record, first);
+    state.cells[OK + i] = byte_at(record, first + 1);
+    state.words[REGISTER + i] = two_at(record, at + 2);
+    state.words[i] = two_at(record, at + 4);
+    for d in 0..DEPTH as usize {
+        state.cells[LAP + (DEPTH as usize) * i + d] = byte_at(record, first + 6 + d);
+    }
 }
 
 // A channel's closed mark and length.
-fn put_chan(record: &[u8], c: u8, cells: &mut [u8; STATE_CELLS]) {
+fn put_chan(record: &[u8], c: u8, state: &mut State) {
     let i = (c % CHANS) as usize;
     let at = (CHANS_AT + CHAN_SIZE * ((c % CHANS) as u32)) as usize;
-    cells[CLOSED + i] = byte_at(record, at);
-    cells[LENGTH + i] = byte_at(record, at + 1);
+    state.cells[CLOSED + i] = byte_at(record, at);
+    state.cells[LENGTH + i] = byte_at(record, at + 1);
 }
 
 // The state that a record tells, with these counts of tasks and channels.
 pub(crate) fn state_of(record: &[u8], tasks: u8, channels: u8) -> State {
-    let mut words = [0u16; STATE_WORDS];
-    let mut cells = [0u8; STATE_CELLS];
-    cells[FAULT] = byte_at(record, 0);
-    cells[NAMED] = byte_at(record, 1);
-    words[STAMP] = two_at(record, 2);
-    cells[WAITING] = byte_at(record, 4);
-    cells[TASK_COUNT] = tasks;
-    cells[CHAN_COUNT] = channels;
+    let mut state = State {
+        words: [0; STATE_WORDS],
+        cells: [0; STATE_CELLS],
+    };
+    state.cells[FAULT] = byte_at(record, 0);
+    state.cells[NAMED] = byte_at(record, 1);
+    state.words[STAMP] = two_at(record, 2);
+    state.cells[WAITING] = byte_at(record, 4);
+    state.cells[TASK_COUNT] = tasks;
+    state.cells[CHAN_COUNT] = channels;
     for i in 0..TASKS {
-        put_task(record, i, &mut words, &mut cells);
-        put_chan(record, i, &mut cells);
+        put_task(record, i, &mut state);
+        put_chan(record, i, &mut state);
     }
-    State {
-        words: words,
-        cells: cells,
-    }
+    state
 }
 
 // A channel's values, behind its mark and length.
