@@ -108,14 +108,17 @@ fn put_eight(out: &mut [u8], i: usize, f: Fields)
     requires { i + 8 ≤ length out.old }
     ensures { out.new ≡ sets out.old i (bytes_of f) }
 {
+    let arg = f.arg.to_le_bytes();
+    let next = f.next.to_le_bytes();
+    let other = f.other.to_le_bytes();
     out[i] = f.op;
     out[i + 1] = f.chan;
-    out[i + 2] = (f.arg % 256) as u8;
-    out[i + 3] = (f.arg / 256 % 256) as u8;
-    out[i + 4] = (f.next % 256) as u8;
-    out[i + 5] = (f.next / 256 % 256) as u8;
-    out[i + 6] = (f.other % 256) as u8;
-    out[i + 7] = (f.other / 256 % 256) as u8;
+    out[i + 2] = arg[0];
+    out[i + 3] = arg[1];
+    out[i + 4] = next[0];
+    out[i + 5] = next[1];
+    out[i + 6] = other[0];
+    out[i + 7] = other[1];
 }
 
 // Stores row r of an image that begins with row 0 at the buffer's start: eight bytes, and no other. Where they would pass
