@@ -7,6 +7,7 @@ ghost use Rattle.std.specs.Prelude.{◌≡◌};
 ghost use Rattle.meaning.specs.Bytes.{port_of};
 ghost use Rattle.meaning.specs.Events.{port_number};
 
+pub mod ops;
 pub mod sizes;
 
 use sizes::NIL;
