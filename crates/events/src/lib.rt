@@ -49,11 +49,12 @@ fn put_six(out: &mut [u8], i: usize, task: Task, e: EventNumbers)
     requires { i + 6 ≤ length out.old }
     ensures { out.new ≡ sets out.old i (event_record task e) }
 {
+    let value = e.value.to_le_bytes();
     out[i] = e.number;
     out[i + 1] = task.0;
     out[i + 2] = e.channel;
-    out[i + 3] = (e.value % 256) as u8;
-    out[i + 4] = (e.value / 256 % 256) as u8;
+    out[i + 3] = value[0];
+    out[i + 4] = value[1];
     out[i + 5] = e.partner;
 }
 

@@ -8,28 +8,24 @@ ghost use Rattle.image_rows.specs.Rows.{fields_put, row_put};
 ghost use Rattle.image_put.specs.Kinds.{Select};
 ghost use Rattle.image_put.specs.Fields.{op_fields};
 ghost use Rattle.meaning.specs.Bytes.{fields_of, bytes_of};
+ghost use Rattle.meaning.specs.Ops.{op_number};
 
+use meaning::ops::RowKind;
 use meaning::sizes::ROW_SIZE;
 use meaning::{Fields, Op, Otherwise, Row, Statement};
 
-// The op of a send, alone and in a case.
-const SEND: u8 = 1;
-
-const CASE_SEND: u8 = 9;
-
-// The fields of an operation, alone or as a case: its op counts on from that of the send, 1 or 9.
+// The fields of an operation, alone or as a case, of these three kinds.
 #[tactic(auto, unfolding(crate::specs::Fields::op_fields))]
-fn op_fields(send: u8, o: Op, next: Row) -> Fields
-    requires { send ≤ 9 }
-    ensures { result ≡ op_fields send o next }
+fn op_fields(send: RowKind, forward: RowKind, recv: RowKind, o: Op, next: Row) -> Fields
+    ensures { result ≡ op_fields (op_number send) (op_number forward) (op_number recv) o next }
 {
     let (kind, port, arg) = match o {
-        Op::Send(p, v) => (0, p, v),
-        Op::Forward(p) => (1, p, 0),
-        Op::Recv(p) => (2, p, 0),
+        Op::Send(p, v) => (send, p, v),
+        Op::Forward(p) => (forward, p, 0),
+        Op::Recv(p) => (recv, p, 0),
     };
     Fields {
-        op: send + kind,
+        op: u8::from(kind),
         chan: u8::from(port),
         arg,
         next: next.0,
@@ -47,7 +43,7 @@ fn select_fields(cases: u8, e: Otherwise) -> Fields
         Otherwise::Go(n) => (1, n.0),
     };
     Fields {
-        op: 8,
+        op: u8::from(RowKind::Select),
         chan: cases,
         arg,
         next,
@@ -62,39 +58,45 @@ pub fn fields_of(s: Statement) -> Fields
     ensures { result ≡ fields_of s }
 {
     match s {
-        Statement::Do(o, n) => op_fields(SEND, o, n),
+        Statement::Do(o, n) => op_fields(RowKind::Send, RowKind::Forward, RowKind::Recv, o, n),
         Statement::Close(p, n) => Fields {
-            op: 4,
+            op: u8::from(RowKind::Close),
             chan: u8::from(p),
             arg: 0,
             next: n.0,
             other: 0,
         },
         Statement::Range(p, n, a) => Fields {
-            op: 5,
+            op: u8::from(RowKind::Range),
             chan: u8::from(p),
             arg: 0,
             next: n.0,
             other: a.0,
         },
         Statement::Repeat(d, k, n, a) => Fields {
-            op: 6,
+            op: u8::from(RowKind::Repeat),
             chan: d,
             arg: k,
             next: n.0,
             other: a.0,
         },
         Statement::Ifok(n, a) => Fields {
-            op: 7,
+            op: u8::from(RowKind::Ifok),
             chan: 0,
             arg: 0,
             next: n.0,
             other: a.0,
         },
         Statement::Select(k, e) => select_fields(k, e),
-        Statement::Case(o, n) => op_fields(CASE_SEND, o, n),
+        Statement::Case(o, n) => op_fields(
+            RowKind::CaseSend,
+            RowKind::CaseForward,
+            RowKind::CaseRecv,
+            o,
+            n,
+        ),
         Statement::Stop => Fields {
-            op: 12,
+            op: u8::from(RowKind::Stop),
             chan: 0,
             arg: 0,
             next: 0,
@@ -108,14 +110,17 @@ fn put_eight(out: &mut [u8], i: usize, f: Fields)
     requires { i + 8 ≤ length out.old }
     ensures { out.new ≡ sets out.old i (bytes_of f) }
 {
+    let arg = f.arg.to_le_bytes();
+    let next = f.next.to_le_bytes();
+    let other = f.other.to_le_bytes();
     out[i] = f.op;
     out[i + 1] = f.chan;
-    out[i + 2] = (f.arg % 256) as u8;
-    out[i + 3] = (f.arg / 256 % 256) as u8;
-    out[i + 4] = (f.next % 256) as u8;
-    out[i + 5] = (f.next / 256 % 256) as u8;
-    out[i + 6] = (f.other % 256) as u8;
-    out[i + 7] = (f.other / 256 % 256) as u8;
+    out[i + 2] = arg[0];
+    out[i + 3] = arg[1];
+    out[i + 4] = next[0];
+    out[i + 5] = next[1];
+    out[i + 6] = other[0];
+    out[i + 7] = other[1];
 }
 
 // Stores row r of an image that begins with row 0 at the buffer's start: eight bytes, and no other. Where they would pass

@@ -12,11 +12,9 @@ mod table;
 
 use fields::Held;
 use meaning::Row;
+use meaning::ops::RowKind;
 use meaning::sizes::ROW_SIZE;
 use table::Judged;
-
-// The op of a select.
-const SELECT: u8 = 8;
 
 // Whether a target is a row and no case row. A row that the slice does not hold has op 0 and is no case row.
 #[tactic(auto, unfolding(crate::specs::Row::is_target, crate::specs::Row::is_case_row), using(crate::proofs::Laws::cut_row))]
@@ -43,7 +41,7 @@ pub fn owed_behind(body: &[u8], i: Row, owed: u8) -> u8
         return 0;
     }
     let row = Held { body, at: i };
-    if row.op() == SELECT {
+    if row.op() == u8::from(RowKind::Select) {
         return row.chan();
     }
     if row.is_case() {

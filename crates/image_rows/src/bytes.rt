@@ -1,6 +1,6 @@
 // Bytes and two-byte numbers of a slice, 0 where the slice has ended; and the two parts in which an image is read, its trailer
 // and what stands from row 0 on.
-ghost use Rattle.std.specs.Prelude.{◌≡◌, ◌<◌};
+ghost use Rattle.std.specs.Prelude.{◌≡◌};
 ghost use Rattle.meaning.specs.Bytes.{byte_at, two_of, two_at, trailer_of, body_of};
 ghost use Rattle.image_rows.specs.Rows.{counts_in};
 
@@ -13,17 +13,11 @@ pub fn byte_at(s: &[u8], i: usize) -> u8
     if i < s.len() { s[i] } else { 0 }
 }
 
-fn wide(x: u8) -> u16
-    ensures { (result ≡ x) × (result < 256) }
-{
-    x as u16
-}
-
 // Low byte first.
 pub fn two_of(low: u8, high: u8) -> u16
     ensures { result ≡ two_of low high }
 {
-    wide(low) + 256 * wide(high)
+    u16::from_le_bytes([low, high])
 }
 
 pub fn two_at(s: &[u8], i: u32) -> u16

@@ -4,6 +4,7 @@ ghost use Rattle.meaning.specs.Image.{row_no};
 ghost use Rattle.meaning.specs.Bytes.{otherwise_of, statement_of, fields_at, fields_of_row, rows_in, capacity_in, first_row_in};
 
 use crate::bytes::{byte_at, two_at, two_of};
+use meaning::ops::RowKind;
 use meaning::sizes::ROW_SIZE;
 use meaning::{Chan, Fields, Op, Otherwise, Port, Row, Statement, Task};
 
@@ -54,7 +55,7 @@ pub fn fields_of_row(body: &[u8], r: Row) -> Fields
 
 // The statement that five fields read as.
 // Kept, point 4: a From<Fields> would have to stand in crate meaning, whose both kinds are, below the crates that read and write rows.
-#[tactic(auto, unfolding(meaning::specs::Bytes::statement_of), using(crate::proofs::Laws::past_the_table))]
+#[tactic(auto, unfolding(meaning::specs::Bytes::statement_of))]
 pub fn statement_of(f: Fields) -> Statement
     ensures { result ≡ statement_of f }
 {
@@ -62,20 +63,19 @@ pub fn statement_of(f: Fields) -> Statement
     let arg = f.arg;
     let next = Row(f.next);
     let other = Row(f.other);
-    let op = f.op;
-    match op {
-        1 => Statement::Do(Op::Send(p, arg), next),
-        2 => Statement::Do(Op::Forward(p), next),
-        3 => Statement::Do(Op::Recv(p), next),
-        4 => Statement::Close(p, next),
-        5 => Statement::Range(p, next, other),
-        6 => Statement::Repeat(f.chan, arg, next, other),
-        7 => Statement::Ifok(next, other),
-        8 => Statement::Select(f.chan, otherwise_of(arg, next)),
-        9 => Statement::Case(Op::Send(p, arg), next),
-        10 => Statement::Case(Op::Forward(p), next),
-        11 => Statement::Case(Op::Recv(p), next),
-        _ => Statement::Stop,
+    match RowKind::try_from(f.op) {
+        Ok(RowKind::Send) => Statement::Do(Op::Send(p, arg), next),
+        Ok(RowKind::Forward) => Statement::Do(Op::Forward(p), next),
+        Ok(RowKind::Recv) => Statement::Do(Op::Recv(p), next),
+        Ok(RowKind::Close) => Statement::Close(p, next),
+        Ok(RowKind::Range) => Statement::Range(p, next, other),
+        Ok(RowKind::Repeat) => Statement::Repeat(f.chan, arg, next, other),
+        Ok(RowKind::Ifok) => Statement::Ifok(next, other),
+        Ok(RowKind::Select) => Statement::Select(f.chan, otherwise_of(arg, next)),
+        Ok(RowKind::CaseSend) => Statement::Case(Op::Send(p, arg), next),
+        Ok(RowKind::CaseForward) => Statement::Case(Op::Forward(p), next),
+        Ok(RowKind::CaseRecv) => Statement::Case(Op::Recv(p), next),
+        Ok(RowKind::Stop) | Err(_) => Statement::Stop,
     }
 }
 

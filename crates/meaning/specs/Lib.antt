@@ -1,6 +1,7 @@
 -- What a reader must believe, in the order in which it is read beside document 01.
 pub mod Kinds
 pub mod Numbers
+pub mod Ops
 pub mod Events
 pub mod Statuses
 pub mod Machine

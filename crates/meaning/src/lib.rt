@@ -8,6 +8,7 @@ ghost use Rattle.meaning.specs.Bytes.{port_of};
 ghost use Rattle.meaning.specs.Events.{port_number};
 ghost use Rattle.meaning.specs.Statuses.{status_number, status_of};
 
+pub mod ops;
 pub mod sizes;
 
 use sizes::NIL;
