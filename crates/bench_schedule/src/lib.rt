@@ -9,15 +9,15 @@ ghost use Rattle.bench_schedule.specs.Number.{number_of};
 
 use machine::{fresh_values, start};
 use machine_schedule::schedule;
-use machine_turns::Outcome;
+use machine_turns::Unmade;
 
 // A refusal's number; 0 where the turns are made.
-fn number_of(outcome: Outcome) -> u8
+fn number_of(outcome: Result<usize, Unmade>) -> u8
     ensures { result ≡ number_of outcome }
 {
     match outcome {
-        Outcome::Done(_) => 0,
-        Outcome::Refused(number, _) => number,
+        Ok(_) => 0,
+        Err(why) => why.number(),
     }
 }
 

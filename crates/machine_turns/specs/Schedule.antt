@@ -2,7 +2,7 @@
 -- included; record bytes past the last are untouched."
 use Rattle.std.specs.Prelude.{cond, List, [], ◌∷◌, ◌++◌, ℕ, ◌*◌, ◌%◌, eqb, leb, length, Result, Ok, Err, ⊤}
 use Rattle.std.proofs.lemmas.List.Edits.{sets}
-use Rattle.machine_turns.specs.Kinds.{Task, Counts, ImageFault, State, Outcome, Scheduled}
+use Rattle.machine_turns.specs.Kinds.{Task, Counts, ImageFault, State, Unmade, Image, Unfit, OddPairs, RecordsShort, Scheduled}
 use Rattle.meaning.specs.Numbers.{unfit}
 use Rattle.meaning.specs.Events.{numbers}
 use Rattle.meaning.specs.Image.{task_no}
@@ -53,28 +53,41 @@ longest = 6148914691236517205
 abbrev pub needed : ℕ → ℕ
 needed n = cond (leb n longest) (3 * n) 18446744073709551615
 
+-- The number of a call that makes no turn, and its place.
+abbrev pub unmade_number : Unmade → ℕ
+unmade_number (Image fault) = fault_number fault
+unmade_number Unfit = unfit
+unmade_number OddPairs = odd_pairs
+unmade_number (RecordsShort n) = records_short
+
+abbrev pub unmade_place : Unmade → ℕ
+unmade_place (Image fault) = fault_place fault
+unmade_place Unfit = 0
+unmade_place OddPairs = 0
+unmade_place (RecordsShort n) = n
+
 -- Of so many bytes of pairs, with room for so many bytes of records.
-abbrev pub outcome_of : ℕ → ℕ → Outcome
+abbrev pub outcome_of : ℕ → ℕ → Result ℕ Unmade
 outcome_of pairs room =
     cond (eqb (pairs % 2) 0)
-    (cond (leb (needed pairs) room) (Outcome.Done (needed pairs)) (Outcome.Refused records_short (needed pairs)))
-    (Outcome.Refused odd_pairs 0)
+    (cond (leb (needed pairs) room) (Ok (needed pairs)) (Err (RecordsShort (needed pairs))))
+    (Err OddPairs)
 
-abbrev pub outcome_after : List ℕ → Counts → State → ℕ → ℕ → Result ⊤ ImageFault → Outcome
-outcome_after rs k s pairs room (Ok done) = cond (fitting_in rs k s.words s.cells) (outcome_of pairs room) (Outcome.Refused unfit 0)
-outcome_after rs k s pairs room (Err fault) = Outcome.Refused (fault_number fault) (fault_place fault)
+abbrev pub outcome_after : List ℕ → Counts → State → ℕ → ℕ → Result ⊤ ImageFault → Result ℕ Unmade
+outcome_after rs k s pairs room (Ok done) = cond (fitting_in rs k s.words s.cells) (outcome_of pairs room) (Err Unfit)
+outcome_after rs k s pairs room (Err fault) = Err (Image fault)
 
-unfoldable pub outcome : List ℕ → State → ℕ → ℕ → Outcome
+unfoldable pub outcome : List ℕ → State → ℕ → ℕ → Result ℕ Unmade
 outcome bs s pairs room = outcome_after (body_of bs) (counts_of bs) s pairs room (checked bs)
 
 -- THE CALL on an image, a state, the values beside it, a slice of pairs and one for the records: what it answers, and the values and
 -- every byte of the records behind it. A refused call changes nothing.
 
-abbrev pub if_done : {A : Type 0} → Outcome → A → A → A
-if_done (Outcome.Done n) made kept = made
-if_done (Outcome.Refused n i) made kept = kept
+abbrev pub if_done : {A : Type 0} → Result ℕ Unmade → A → A → A
+if_done (Ok n) made kept = made
+if_done (Err why) made kept = kept
 
-abbrev pub decided : List ℕ → State → List ℕ → List ℕ → Outcome
+abbrev pub decided : List ℕ → State → List ℕ → List ℕ → Result ℕ Unmade
 decided bs s pairs records = outcome bs s (length pairs) (length records)
 
 module _ (bs : List ℕ) (s : State) (b : Values) (pairs records : List ℕ) where

@@ -3,53 +3,72 @@
 #![tactic(auto)]
 
 ghost use Rattle.std.specs.Prelude.{◌≡◌};
-ghost use Rattle.machine_turns.specs.Schedule.{needed, outcome_of};
+ghost use Rattle.machine_turns.specs.declared.Unmade.TheVariants.{Image};
+ghost use Rattle.machine_turns.specs.Schedule.{needed, unmade_number, unmade_place, outcome_of};
 
+use image_check::ImageFault;
+use machine::UNFIT;
 use machine_store::State;
 
-// The refusals ahead of the first turn, behind the image check's own and 17.
-const ODD_PAIRS: u8 = 30;
-
-const RECORDS_SHORT: u8 = 31;
-
-// The longest slice of pairs for whose records a length can be said.
-const LONGEST: usize = 6148914691236517205;
-
-// What a schedule answers: how many bytes of records are written, or a refusal's number and place.
+// Why a schedule makes no turn: the image's own refusal, a state that does not fit it, pairs that are odd, or records that are shorter
+// than they need, with that length.
 #[derive(Clone, Copy)]
-pub enum Outcome {
-    Done(usize),
-    Refused(u8, usize),
+pub enum Unmade {
+    Image(ImageFault),
+    Unfit,
+    OddPairs,
+    RecordsShort(usize),
 }
 
-// The answer, and the state behind the last turn.
+impl Unmade {
+    // The refusal's number in document 02, and its place: 0 where it has none.
+    pub fn number(self) -> u8
+        ensures { result ≡ unmade_number self }
+    {
+        match self {
+            Unmade::Image(fault) => fault.number(),
+            Unmade::Unfit => UNFIT,
+            Unmade::OddPairs => 30,
+            Unmade::RecordsShort(_) => 31,
+        }
+    }
+
+    pub fn place(self) -> usize
+        ensures { result ≡ unmade_place self }
+    {
+        match self {
+            Unmade::Image(fault) => usize::from(fault.place()),
+            Unmade::RecordsShort(needed) => needed,
+            _ => 0,
+        }
+    }
+}
+
+impl From<ImageFault> for Unmade {
+    ghost from_gives = { λ fault why. why ≡ Image fault };
+
+    fn from(fault: ImageFault) -> Unmade {
+        Unmade::Image(fault)
+    }
+}
+
+// The answer, how many bytes of records are written or why no turn is made, and the state behind the last turn.
 #[derive(Clone, Copy)]
 pub struct Scheduled {
-    pub outcome: Outcome,
+    pub outcome: Result<usize, Unmade>,
     pub state: State,
 }
 
-// How many bytes the records of so many bytes of pairs take: six for each pair.
-fn length_needed(pairs: usize) -> usize
-    ensures { result ≡ needed pairs }
-{
-    if pairs <= LONGEST {
-        3 * pairs
-    } else {
-        18446744073709551615
-    }
-}
-
-// Whether so many bytes of pairs are pairs, and their records have room.
-pub fn outcome_of(pairs: usize, room: usize) -> Outcome
+// Whether so many bytes of pairs are pairs, and their records, six bytes for each pair, have room.
+pub fn outcome_of(pairs: usize, room: usize) -> Result<usize, Unmade>
     ensures { result ≡ outcome_of pairs room }
 {
-    let needed = length_needed(pairs);
+    let needed = pairs.saturating_mul(3);
     if pairs % 2 != 0 {
-        return Outcome::Refused(ODD_PAIRS, 0);
+        return Err(Unmade::OddPairs);
     }
     if room < needed {
-        return Outcome::Refused(RECORDS_SHORT, needed);
+        return Err(Unmade::RecordsShort(needed));
     }
-    Outcome::Done(needed)
+    Ok(needed)
 }

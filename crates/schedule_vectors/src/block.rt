@@ -9,7 +9,7 @@ use crate::record::{RECORD_SIZE, state_of, values_of};
 use machine::{fresh_values, start};
 use machine_schedule::schedule;
 use machine_store::State;
-use machine_turns::Outcome;
+use machine_turns::Unmade;
 use meaning::sizes::{CELLS, CHANS};
 use std::alloc::Global;
 
@@ -189,10 +189,13 @@ fn values_before(given: &Option<Given>) -> [[u16; CELLS as usize]; CHANS as usiz
 // THE COMPARISON
 
 // Whether this is the answer due. 0 stands for done alone: no refusal has that number.
-fn is_due(outcome: Outcome, due: &Due) -> bool {
+fn is_due(outcome: Result<usize, Unmade>, due: &Due) -> bool {
     match outcome {
-        Outcome::Done(n) => due.number == 0 && n == due.place,
-        Outcome::Refused(n, at) => due.number != 0 && due.number == n as usize && at == due.place,
+        Ok(n) => due.number == 0 && n == due.place,
+        Err(why) => {
+            let number = usize::from(why.number());
+            due.number != 0 && due.number == number && why.place() == due.place
+        }
     }
 }
 
