@@ -7,6 +7,7 @@ use Rattle.meaning.specs.Bytes.{body_of}
 use Rattle.image_rows.specs.Rows.{counts_of}
 use Rattle.image_check.specs.Check.{checked}
 use Rattle.machine_records.specs.Values.{Values}
+use Rattle.machine_store.specs.Store.{Whole}
 use Rattle.machine_fit.specs.Fitted.{fitting_in}
 use Rattle.machine_turns.specs.Schedule.{pairs_of, state_behind, values_behind, event_records}
 
@@ -15,21 +16,16 @@ pub record Sixteen (b : Values) : Type 0 where
   pub rows : length b ≡ channel_limit
   pub cells : (c : ℕ) → c < channel_limit → length (get_or b c []) ≡ capacity_limit
 
--- The state in two arrays.
-abbrev pub state_in : List ℕ → List ℕ → State
-state_in w c = record { words = w; cells = c }
-
-module _ (bs w c : List ℕ) (b : Values) (pairs out : List ℕ) where
+module _ (bs : List ℕ) (s : State) (b : Values) (pairs out : List ℕ) where
   pub record Ready : Type 0 where
     pub good : checked bs ≡ Ok tt
-    pub fit : fitting_in (body_of bs) (counts_of bs) w c ≡ true
-    pub words : length w ≡ 33
-    pub cells : length c ≡ 181
+    pub fit : fitting_in (body_of bs) (counts_of bs) s.words s.cells ≡ true
+    pub whole : Whole s
     pub values : Sixteen b
     pub even : length pairs % 2 ≡ 0
     pub room : 3 * length pairs ≤ length out
 
-  pub record Ran (w' c' : List ℕ) (b' : Values) (out' : List ℕ) : Type 0 where
-    pub state : state_in w' c' ≡ state_behind bs (pairs_of pairs) (state_in w c) b
-    pub values : b' ≡ values_behind bs (pairs_of pairs) (state_in w c) b
-    pub records : out' ≡ sets out 0 (event_records bs (pairs_of pairs) (state_in w c) b)
+  pub record Ran (s' : State) (b' : Values) (out' : List ℕ) : Type 0 where
+    pub state : s' ≡ state_behind bs (pairs_of pairs) s b
+    pub values : b' ≡ values_behind bs (pairs_of pairs) s b
+    pub records : out' ≡ sets out 0 (event_records bs (pairs_of pairs) s b)

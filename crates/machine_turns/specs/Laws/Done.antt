@@ -12,7 +12,7 @@ use Rattle.image_check.specs.Check.{checked}
 use Rattle.machine_records.specs.Values.{Values}
 use Rattle.machine_fit.specs.Fitted.{fitting_in}
 use Rattle.machine_turns.specs.Schedule.{pairs_of, state_behind, values_behind, event_records, longest, needed, outcome_of, outcome_after, outcome, if_done, decided, scheduled, values_after, records_after}
-use Rattle.machine_turns.specs.Loop.{state_in, Ran}
+use Rattle.machine_turns.specs.Loop.{Ran}
 
 -- Refusals and their opposite are told apart.
 abbrev IsDone : Result ℕ Unmade → Type 0
@@ -69,8 +69,8 @@ module _ (bs : List ℕ) (s : State) (b : Values) (pairs records : List ℕ) (o 
         sym (ap (λ o. if_done o (sets records 0 (event_records bs (pairs_of pairs) s b)) records) r),
       )
 
-  pub left_turned : (n : ℕ) → o ≡ Ok n → (w c : List ℕ) (b' : Values) (records' : List ℕ) → Ran bs s.words s.cells b pairs records w c b' records' → Left (state_in w c) b' records'
-  left_turned n d w c b' records' ran =
+  pub left_turned : (n : ℕ) → o ≡ Ok n → (s' : State) (b' : Values) (records' : List ℕ) → Ran bs s b pairs records s' b' records' → Left s' b' records'
+  left_turned n d s' b' records' ran =
       let r : decided bs s pairs records ≡ Ok n = sym e ∙ d in (
         ap₂ (λ o s. record { outcome = o; state = s }) e (ran.state ∙ sym (ap (λ o. if_done o (state_behind bs (pairs_of pairs) s b) s) r)),
         ran.values ∙ sym (ap (λ o. if_done o (values_behind bs (pairs_of pairs) s b) b) r),
