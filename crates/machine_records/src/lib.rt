@@ -28,6 +28,7 @@ pub struct ChanState {
 
 // What a turn does to the values of a channel, with its length before the turn: nothing, append, take the oldest, or take the
 // oldest and append.
+// Kept, point 1: `Keep` is one of four changes; an Option of the other three would be taken apart twice wherever a change is stored.
 #[derive(Clone, Copy)]
 pub enum Change {
     Keep,
@@ -86,6 +87,7 @@ impl From<Fault> for u8 {
 //     Hand: a value to a waiting receiver; Append: into the buffer
 //     Take: the oldest value; Refill: the same, and a waiting sender's value behind it; Receive: a waiting sender's; Drain: a zero
 //     Shut: close, and wake all that wait to receive
+// Kept, point 1: `Wait` is a plan like the others: the task joins the order.
 #[derive(Clone, Copy)]
 pub enum Plan {
     Fail(Fault, Port),

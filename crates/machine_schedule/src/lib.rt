@@ -71,7 +71,7 @@ pub fn schedule(
     ensures { (result ≡ scheduled image.now s values.old pairs.now records.old) × (values.new ≡ values_after image.now s values.old pairs.now records.old) × (records.new ≡ records_after image.now s values.old pairs.now records.old) }
 {
     let outcome = decide(image, &s, pairs.len(), records.len());
-    if outcome.is_ok() {
+    if let Ok(_) = outcome {
         let _all = sixteen(*values);
         run_in(image, &mut s, values, pairs, records);
     }

@@ -25,6 +25,7 @@ pub struct Chan(pub u8);
 pub struct Row(pub u16);
 
 // A channel, or nil.
+// Kept, point 1: document 01's nil is a channel on which every operation waits and a close faults, and no channel that lacks: `Nil` says so.
 #[derive(Clone, Copy, PartialEq, Eq)]
 pub enum Port {
     Nil,
@@ -41,6 +42,7 @@ pub enum Op {
 }
 
 // What a select does when no case is ready: wait, or go on at the first row of its default.
+// Kept, point 1: `Wait` says what a select without a default does; `None` would say only that it has no row.
 #[derive(Clone, Copy)]
 pub enum Otherwise {
     Wait,
@@ -104,6 +106,7 @@ impl From<u8> for Status {
 }
 
 // What a turn reports. specs/Events.antt gives document 01's four numbers for each.
+// Kept, point 1: fault and refusal are numbers here, as `halt` and `refused` of specs/Machine have them; the enums stand above, with whoever refuses, and give their numbers.
 #[derive(Clone, Copy)]
 pub enum Event {
     Appended(Chan, u16),

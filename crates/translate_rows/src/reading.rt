@@ -8,8 +8,8 @@ ghost use Rattle.text_reader.specs.Answers.{due_told, told_as, count_told, BodyT
 ghost use Rattle.translate_notes.specs.Notes.{noted};
 ghost use Rattle.translate_rows.specs.Noted.{BodyNoted, StmtNoted, BlockNoted, SecondNoted, IfokNoted, SelectNoted, CaseNoted, CasesNoted, LastNoted, Unmoved};
 
-use meaning::sizes::CASES;
 use meaning::Row;
+use meaning::sizes::CASES;
 use text_blocks::{read_case_head, read_end};
 use text_heads::read_head;
 use text_reader::kinds::{DEFAULT, ELSE};

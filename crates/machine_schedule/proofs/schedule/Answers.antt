@@ -8,7 +8,7 @@ use Rattle.machine_schedule.proofs.schedule.Goals as goal
 pub run_in-requires : goal.run_in-requires
 run_in-requires c =
     let a = c.args in
-    let begun = done_begun a.image.now a.s (length a.pairs.now) (length a.records.now) _ c.decide-outcome.ensures _ c.in-Done.is in
+    let begun = done_begun a.image.now a.s (length a.pairs.now) (length a.records.now) _ c.decide-outcome.ensures _ c.in-Ok.is in
     record {
       good = begun.good;
       fit = begun.fit;
