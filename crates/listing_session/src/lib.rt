@@ -18,7 +18,7 @@ use listing_lines::{
 };
 use machine::{start, turn};
 use machine_records::Change;
-use machine_store::{State, chan_at, chancount_in, fault_in, stamp_in, task_at, taskcount_in};
+use machine_store::State;
 use meaning::sizes::{CELLS, CHANS};
 use meaning::{Chan, Task};
 
@@ -90,10 +90,8 @@ pub fn line_count(s: Session) -> u32
 {
     let a = s.answer;
     let state = s.state;
-    let words = state.words;
-    let cells = state.cells;
-    let tasks = taskcount_in(&words, &cells);
-    let chans = chancount_in(&words, &cells);
+    let tasks = state.task_count();
+    let chans = state.channel_count();
     (pair_count(a) as u32) + (tasks as u32) + (chans as u32) + 1
 }
 
@@ -103,23 +101,21 @@ pub fn line_count(s: Session) -> u32
 fn state_line(i: u32, s: State, values: [[u16; CELLS as usize]; CHANS as usize]) -> Line
     ensures { Shows result (state_line i s values) }
 {
-    let words = s.words;
-    let cells = s.cells;
-    let tasks = taskcount_in(&words, &cells) as u32;
+    let tasks = s.task_count() as u32;
     if i < tasks {
         let task = Task((i % 256) as u8);
-        let x = task_at(&words, &cells, task);
+        let x = s.task(task);
         return task_line(task, x);
     }
     let j = i - tasks;
-    if j < chancount_in(&words, &cells) as u32 {
+    if j < s.channel_count() as u32 {
         let chan = Chan((j % 256) as u8);
-        let x = chan_at(&words, &cells, chan);
+        let x = s.channel(chan);
         let at = (chan.0 % CHANS) as usize;
         let held = values[at];
         return chan_line(chan, x, held);
     }
-    stamp_line(stamp_in(&words, &cells), fault_in(&words, &cells))
+    stamp_line(s.stamp(), s.fault())
 }
 
 fn quiet(line: Line, s: Session) -> Listed
