@@ -13,7 +13,7 @@ ghost use Rattle.machine.specs.Public.{started, fresh_values};
 use image_rows::bytes::{body_of, counts_in, trailer_of};
 use machine::{fresh_values, start, stored, turn};
 use machine_step::step_in;
-use machine_store::{State, stamp_in};
+use machine_store::State;
 use meaning::Task;
 use meaning::sizes::{CELLS, CHANS};
 
@@ -36,15 +36,12 @@ fn step_rounds(
 ) -> u16
     ensures { result ≡ step_rounds body.now rows values.now t choice n from }
 {
-    let words = from.words;
-    let cells = from.cells;
-    let mut stamp = stamp_in(&words, &cells);
+    let mut stamp = from.stamp();
     let mut left = n;
     while 0 < left {
-        let mut w = words;
-        let mut c = cells;
-        let _m = step_in(body, rows, &mut w, &mut c, values, t, choice);
-        stamp = stamp_in(&w, &c);
+        let mut s = from;
+        let _m = step_in(body, rows, &mut s, values, t, choice);
+        stamp = s.stamp();
         left = left - 1;
     }
     stamp
@@ -61,9 +58,7 @@ fn step_by_value(
 ) -> State
     ensures { records_of result ≡ (stepped body.now rows (records_of s) values.now t choice).after }
 {
-    let mut words = s.words;
-    let _m = step_in(body, rows, &mut words, &mut s.cells, values, t, choice);
-    s.words = words;
+    let _m = step_in(body, rows, &mut s, values, t, choice);
     s
 }
 
@@ -79,15 +74,11 @@ fn value_rounds(
 ) -> u16
     ensures { result ≡ step_rounds body.now rows values.now t choice n from }
 {
-    let words = from.words;
-    let cells = from.cells;
-    let mut stamp = stamp_in(&words, &cells);
+    let mut stamp = from.stamp();
     let mut left = n;
     while 0 < left {
         let after = step_by_value(body, rows, from, values, t, choice);
-        let w = after.words;
-        let c = after.cells;
-        stamp = stamp_in(&w, &c);
+        stamp = after.stamp();
         left = left - 1;
     }
     stamp
@@ -104,16 +95,12 @@ fn turn_rounds(
 ) -> u16
     ensures { result ≡ turn_rounds image.now values t choice n from }
 {
-    let words = from.words;
-    let cells = from.cells;
-    let mut stamp = stamp_in(&words, &cells);
+    let mut stamp = from.stamp();
     let mut left = n;
     while 0 < left {
         let r = turn(image, from, values, t, choice);
         let after = r.state;
-        let w = after.words;
-        let c = after.cells;
-        stamp = stamp_in(&w, &c);
+        stamp = after.stamp();
         left = left - 1;
     }
     stamp
@@ -169,9 +156,7 @@ pub fn bench_start(image: &[u8]) -> u16
 {
     let begun = start(image);
     let s = begun.state;
-    let words = s.words;
-    let cells = s.cells;
-    stamp_in(&words, &cells)
+    s.stamp()
 }
 
 // Rounds of one turn: bare steps, or whole turns with the image check and the fit. Answers the stamp.

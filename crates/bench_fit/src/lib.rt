@@ -14,25 +14,19 @@ use machine::{fresh_values, start};
 use machine_buffer::store_in;
 use machine_fit::fits;
 use machine_step::step_in;
-use machine_store::{STATE_CELLS, STATE_WORDS};
+use machine_store::{STATE_CELLS, STATE_WORDS, State};
 use meaning::Task;
 
 // The steps of the pairs, task and choice, made where the state lies.
-fn lead_on(
-    body: &[u8],
-    rows: u16,
-    words: &mut [u16; STATE_WORDS],
-    cells: &mut [u8; STATE_CELLS],
-    pairs: &[u8],
-)
-    ensures { Made words.old cells.old words.new cells.new (λ s. led_on body.now rows pairs.now s fresh_values) }
+fn lead_on(body: &[u8], rows: u16, state: &mut State, pairs: &[u8])
+    ensures { Made state.old state.new (λ s. led_on body.now rows pairs.now s fresh_values) }
 {
     let mut values = fresh_values();
     let mut i = 0;
     while 1 < pairs.len() - i {
         let t = Task(pairs[i]);
         let c = pairs[i + 1];
-        let m = step_in(body, rows, words, cells, &values, t, c);
+        let m = step_in(body, rows, state, &values, t, c);
         let change = m.change;
         store_in(&mut values, change);
         i = i + 2;
@@ -40,26 +34,21 @@ fn lead_on(
 }
 
 // How many rounds say yes. Behind a no the state is cleared: one that never changed the compiler would test once, ahead of the loop.
-fn fit_rounds(
-    body: &[u8],
-    k: Counts,
-    from: [u16; STATE_WORDS],
-    at: [u8; STATE_CELLS],
-    n: u32,
-) -> u16
-    ensures { result ≡ fit_rounds body.now k n 0 from at }
+fn fit_rounds(body: &[u8], k: Counts, from: State, n: u32) -> u16
+    ensures { result ≡ fit_rounds body.now k n 0 from.words from.cells }
 {
-    let mut words = from;
-    let mut cells = at;
+    let mut state = from;
     let mut count: u16 = 0;
     let mut left = n;
     while 0 < left {
         left = left - 1;
-        if fits(body, k, &words, &cells) {
+        if fits(body, k, &state) {
             count = std::num::wrapping_add_u16(count, 1);
         } else {
-            words = [0u16; STATE_WORDS];
-            cells = [0u8; STATE_CELLS];
+            state = State {
+                words: [0u16; STATE_WORDS],
+                cells: [0u8; STATE_CELLS],
+            };
         }
     }
     count
@@ -72,9 +61,7 @@ pub fn bench_fit(image: &[u8], pairs: &[u8], rounds: u32) -> u16
     let body = body_of(image);
     let k = counts_in(trailer_of(image));
     let begun = start(image);
-    let from = begun.state;
-    let mut words = from.words;
-    let mut cells = from.cells;
-    lead_on(body, k.rows, &mut words, &mut cells, pairs);
-    fit_rounds(body, k, words, cells, rounds)
+    let mut state = begun.state;
+    lead_on(body, k.rows, &mut state, pairs);
+    fit_rounds(body, k, state, rounds)
 }

@@ -93,6 +93,7 @@ pub fn line_count(s: Session) -> u32
 // THE LINES
 
 // Line i behind the turns: the tasks, the channels, the stamp.
+#[tactic(auto, unfolding(crate::specs::Session::state_line))]
 fn state_line(i: u32, s: State, values: [[u16; CELLS as usize]; CHANS as usize]) -> Line
     ensures { Shows result (state_line i s values) }
 {

@@ -5,10 +5,10 @@ use borrow.Author.Rules.{rules}
 use Rattle.bench.proofs.step_rounds.Goals as goal
 
 pub loop-left-init : goal.loop-left-init
-loop-left-init c = rw c.stamp_in-stamp.ensures (rounds_begin _ _ _)
+loop-left-init c = rw c.stamp-stamp.ensures (rounds_begin _ _ _)
 
 pub loop-left-preserved : goal.loop-left-preserved
-loop-left-preserved c = rounds_again _ _ c.loop-left.stamp _ _ _ c.loop-left.invariant (search rules) (c.stamp_in-stamp-in-loop-left.ensures ∙ ap (λ (d : Done). d.after.stamp) c.step_in-m.ensures.same)
+loop-left-preserved c = rounds_again _ _ c.loop-left.stamp _ _ _ c.loop-left.invariant (search rules) (c.stamp-stamp-in-loop-left.ensures ∙ ap (λ (d : Done). d.after.stamp) c.step_in-m.ensures.same)
 
 pub returns : goal.returns
 returns c = rounds_end _ _ _ _ _ c.loop-left.invariant (search rules)

@@ -4,10 +4,10 @@ use Rattle.bench_fit.specs.Laws.FitRounds.{fit_round}
 use Rattle.bench_fit.proofs.fit_rounds.Goals as goal
 
 pub loop-left-preserved-then-fits : goal.loop-left-preserved-then-fits
-loop-left-preserved-then-fits c = c.loop-left.invariant ∙ fit_round c.args.body.now c.args.k c.loop-left.left c.loop-left.count c.loop-left.words c.loop-left.cells (search rules) ∙ rw (← c.fits.ensures, c.if-fits.true, c.wrapping_add_u16-count.ensures.value)
+loop-left-preserved-then-fits c = c.loop-left.invariant ∙ fit_round c.args.body.now c.args.k c.loop-left.left c.loop-left.count c.loop-left.state.words c.loop-left.state.cells (search rules) ∙ rw (← c.fits.ensures, c.if-fits.true, c.wrapping_add_u16-count.ensures.value)
 
 pub loop-left-preserved : goal.loop-left-preserved
-loop-left-preserved c = c.loop-left.invariant ∙ fit_round c.args.body.now c.args.k c.loop-left.left c.loop-left.count c.loop-left.words c.loop-left.cells (search rules) ∙ rw (← c.fits.ensures, c.if-fits.false)
+loop-left-preserved c = c.loop-left.invariant ∙ fit_round c.args.body.now c.args.k c.loop-left.left c.loop-left.count c.loop-left.state.words c.loop-left.state.cells (search rules) ∙ rw (← c.fits.ensures, c.if-fits.false)
 
 pub returns : goal.returns
 unfolding fit_rounds

@@ -13,7 +13,8 @@ use Rattle.machine_records.specs.Values.{Values, changed}
 use Rattle.machine_records.specs.Step.{stepped}
 use Rattle.meaning.specs.Bytes.{body_of}
 use Rattle.image_rows.specs.Rows.{counts_of}
-use Rattle.machine_store.specs.Store.{records_in, records_of, Made}
+use Rattle.machine_store.specs.declared.State.{State}
+use Rattle.machine_store.specs.Store.{records_of, Made}
 use Rattle.machine_fit.specs.Fitted.{fitting_in}
 use Rattle.machine.specs.Public.{started, fresh_values}
 use Rattle.bench_fit.specs.FitRounds.{fit_rounds, led_on, FitsCounted}
@@ -43,11 +44,11 @@ module _ (rs : List ℕ) (rows : ℕ) (ps : List ℕ) (i : ℕ) (s : Records) (b
       short (u ∷ k ∷ l) n = absurd (omega arith)
 
 -- The whole: what was read of the image, the state that it starts with, and the arrays that the pairs lead to.
-pub counted_so : {w c v d : List ℕ} (bs ps : List ℕ) (rounds count : ℕ) (body : List ℕ) (k : Counts) → body ≡ body_of bs → k ≡ counts_of bs → records_in w c ≡ records_of (started bs).state
-    → Made w c v d (λ s. led_on body k.rows ps s fresh_values) → count ≡ fit_rounds body k rounds 0 v d → FitsCounted bs ps rounds count
-counted_so {w} {c} {v} {d} bs ps rounds count body k eb ek es made e = record {
-  w = v;
-  c = d;
+pub counted_so : {x y : State} (bs ps : List ℕ) (rounds count : ℕ) (body : List ℕ) (k : Counts) → body ≡ body_of bs → k ≡ counts_of bs → records_of x ≡ records_of (started bs).state
+    → Made x y (λ s. led_on body k.rows ps s fresh_values) → count ≡ fit_rounds body k rounds 0 y.words y.cells → FitsCounted bs ps rounds count
+counted_so {y = y} bs ps rounds count body k eb ek es made e = record {
+  w = y.words;
+  c = y.cells;
   led = made.same ∙ ap (λ s. led_on body k.rows ps s fresh_values) es ∙ ap₂ (λ (r : List ℕ) (q : Counts). led_on r q.rows ps (records_of (started bs).state) fresh_values) eb ek;
-  counted = e ∙ ap₂ (λ (r : List ℕ) (q : Counts). fit_rounds r q rounds 0 v d) eb ek;
+  counted = e ∙ ap₂ (λ (r : List ℕ) (q : Counts). fit_rounds r q rounds 0 y.words y.cells) eb ek;
 }
