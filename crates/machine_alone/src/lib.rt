@@ -5,22 +5,21 @@
 
 ghost use Rattle.std.specs.Prelude.{false};
 ghost use Rattle.machine_records.specs.Records.{halted, task_got, task_went, task_stood, task_lapped, joined};
-ghost use Rattle.machine_records.specs.Plans.{did, fault_number};
+ghost use Rattle.machine_records.specs.Plans.{did};
 ghost use Rattle.machine_store.specs.Store.{MadeTurn};
 ghost use Rattle.machine_alone.specs.Kinds.{Waiting, Ended, Drained, Waits, Branched, Finished, Faulted, Keep};
 
 use machine_order::join;
-use machine_records::{Change, Fault, Moved};
+use machine_records::{Change, Moved};
 use machine_store::State;
 use meaning::{Chan, Event, Port, Row, Status, Task};
 
 // "Faults change nothing but the halt record (fault number, task named: the mover) and the stamp."
-pub fn fail(state: &mut State, me: Task, fault: Fault, p: Port) -> Moved
-    ensures { MadeTurn state.old state.new result (λ s. did (Faulted p (fault_number fault) me) (halted s (fault_number fault) me) Keep) }
+pub fn fail(state: &mut State, me: Task, f: u8, p: Port) -> Moved
+    ensures { MadeTurn state.old state.new result (λ s. did (Faulted p f me) (halted s f me) Keep) }
 {
-    let number = u8::from(fault);
-    state.halt(number, me);
-    state.done(Event::Faulted(p, number, me), Change::Keep)
+    state.halt(f, me);
+    state.done(Event::Faulted(p, f, me), Change::Keep)
 }
 
 pub fn wait(state: &mut State, me: Task) -> Moved

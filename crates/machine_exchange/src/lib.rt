@@ -31,7 +31,7 @@ fn send_on(body: &[u8], rows: u16, state: &State, c: Chan, v: u16, next: Row) ->
 {
     let k = state.channel(c);
     if k.closed {
-        return Plan::Fail(Fault::SendOnClosed, Port::On(c));
+        return Plan::Fail(u8::from(Fault::SendOnClosed), Port::On(c));
     }
     if let Some(w) = first_waiter(body, state, Side::Receiving, c) {
         return Plan::Hand(c, v, next, w.task, w.offer.hit);
@@ -158,13 +158,13 @@ fn close_on(body: &[u8], state: &State, c: Chan, next: Row) -> Plan
     ensures { result ≡ close_port body.now (records_of state.now) (On c) next }
 {
     if state.channel(c).closed {
-        return Plan::Fail(Fault::CloseOfClosed, Port::On(c));
+        return Plan::Fail(u8::from(Fault::CloseOfClosed), Port::On(c));
     }
     if let Some(_) = first_waiter(body, state, Side::Receiving, c) {
         return Plan::Shut(c, next);
     }
     match first_waiter(body, state, Side::Sending, c) {
-        Some(_) => Plan::Fail(Fault::CloseUnderSender, Port::On(c)),
+        Some(_) => Plan::Fail(u8::from(Fault::CloseUnderSender), Port::On(c)),
         None => Plan::Shut(c, next),
     }
 }
@@ -175,7 +175,7 @@ pub fn close(body: &[u8], state: &State, p: Port, next: Row) -> Plan
     ensures { result ≡ close_port body.now (records_of state.now) p next }
 {
     match p {
-        Port::Nil => Plan::Fail(Fault::CloseOfNil, Port::Nil),
+        Port::Nil => Plan::Fail(u8::from(Fault::CloseOfNil), Port::Nil),
         Port::On(c) => close_on(body, state, c, next),
     }
 }

@@ -50,7 +50,7 @@ module _ (rs : List ℕ) (s : Records) (c : Chan) where
 module _ (rs : List ℕ) (s : Records) (me : Task) where
   unfoldable pub applied : Plan → Done
   -- "Faults change nothing but the halt record (fault number, task named: the mover) and the stamp."
-  applied (Plan.Fail f p) = did (Faulted p (fault_number f) me) (halted s (fault_number f) me) Keep
+  applied (Plan.Fail f p) = did (Faulted p f me) (halted s f me) Keep
   applied Plan.Wait = did Waits (joined (task_stood s me Waiting) me) Keep
   applied (Plan.Branch r) = did Branched (task_went s me r) Keep
   applied (Plan.Lap d k r) = did Branched (task_went (task_lapped s me d k) me r) Keep

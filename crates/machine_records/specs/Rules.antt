@@ -3,7 +3,8 @@
 use Rattle.std.specs.Prelude.{Bool, true, false, Option, Some, None, List, [], ◌∷◌, ℕ, ◌%◌, ltb, length, get_or}
 use Rattle.std.proofs.Math.Option.{none, some}
 use Rattle.std.proofs.Math.Option as maybe
-use Rattle.machine_records.specs.Kinds.{Chan, Row, Port, Nil, On, Op, Send, Forward, Recv, Receiving, Sending, Offer, Waiter, Fault, Plan}
+use Rattle.machine_records.specs.Kinds.{Chan, Row, Port, Nil, On, Op, Send, Forward, Recv, Receiving, Sending, Offer, Waiter, Plan}
+use Rattle.meaning.specs.Numbers.{send_on_closed, close_of_nil, close_of_closed, close_under_sender}
 use Rattle.meaning.specs.Machine.{payload}
 use Rattle.meaning.specs.Image.{row_no}
 use Rattle.meaning.specs.Bytes.{rows_in, capacity_in, tabulate}
@@ -14,7 +15,7 @@ use Rattle.machine_records.specs.Waiters.{case_offer, first_waiter}
 
 -- SEND of v on c: is it closed; who waits to receive; is there room?
 abbrev pub send_on : Chan → ℕ → Row → Bool → Option Waiter → Bool → maybe.Option Plan
-send_on c v next true f r = some (Plan.Fail Fault.SendOnClosed (On c))
+send_on c v next true f r = some (Plan.Fail send_on_closed (On c))
 send_on c v next false (Some w) r = some (Plan.Hand c v next w.task w.offer.hit)
 send_on c v next false None true = some (Plan.Append c v next)
 send_on c v next false None false = none
@@ -34,9 +35,9 @@ module _ (s : Records) where
 
 -- CLOSE of c: is it closed; who waits to receive, and to send?
 abbrev pub close_on : Chan → Row → Bool → Option Waiter → Option Waiter → Plan
-close_on c next true r w = Plan.Fail Fault.CloseOfClosed (On c)
+close_on c next true r w = Plan.Fail close_of_closed (On c)
 close_on c next false (Some t) w = Plan.Shut c next
-close_on c next false None (Some w) = Plan.Fail Fault.CloseUnderSender (On c)
+close_on c next false None (Some w) = Plan.Fail close_under_sender (On c)
 close_on c next false None None = Plan.Shut c next
 
 -- OPERATIONS: rs is the image from row 0 on, with so many rows.
@@ -64,7 +65,7 @@ module _ (rs : List ℕ) (rows : ℕ) (s : Records) (b : Values) (register : ℕ
 
 module _ (rs : List ℕ) (s : Records) where
   unfoldable pub close_port : Port → Row → Plan
-  close_port Nil next = Plan.Fail Fault.CloseOfNil Nil
+  close_port Nil next = Plan.Fail close_of_nil Nil
   close_port (On c) next = close_on c next (chan_in s.chans c).closed (first_waiter rs s Receiving c) (first_waiter rs s Sending c)
 
 -- SELECT: "a case is ready if its operation alone wouldn't wait (a send on a closed channel is ready and faults)"

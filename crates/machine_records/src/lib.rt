@@ -87,10 +87,11 @@ impl From<Fault> for u8 {
 //     Hand: a value to a waiting receiver; Append: into the buffer
 //     Take: the oldest value; Refill: the same, and a waiting sender's value behind it; Receive: a waiting sender's; Drain: a zero
 //     Shut: close, and wake all that wait to receive
-// Kept, point 1: `Wait` is a plan like the others: the task joins the order.
+// Kept, point 1: `Wait` is a plan like the others, the task joins the order; `Fail` has the fault as a number, since `machine_alone::fail` answers every
+// number and `fail_seen` (machine_laws/specs/Laws/Link) is proved of every number.
 #[derive(Clone, Copy)]
 pub enum Plan {
-    Fail(Fault, Port),
+    Fail(u8, Port),
     Wait,
     Branch(Row),
     Lap(u8, u8, Row),

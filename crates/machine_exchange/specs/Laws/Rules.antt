@@ -4,7 +4,8 @@ use Rattle.std.proofs.Common.{sym, ◌∙◌, lt-ltb, le-ltb}
 use Rattle.std.proofs.Math.Path.{ap}
 use Rattle.std.proofs.Math.Bool.{true, false}
 use Rattle.std.proofs.Math.Dec.{ltb}
-use Rattle.machine_exchange.specs.Kinds.{Chan, Row, On, Op, Send, Forward, Recv, ChanState, Waiter, Fault, Receiving, Sending, Plan}
+use Rattle.meaning.specs.Numbers.{send_on_closed, close_of_closed, close_under_sender}
+use Rattle.machine_exchange.specs.Kinds.{Chan, Row, On, Op, Send, Forward, Recv, ChanState, Waiter, Receiving, Sending, Plan}
 use Rattle.meaning.specs.Bytes.{capacity_in}
 use Rattle.machine_records.specs.Records.{Records, chan_in}
 use Rattle.machine_records.specs.Values.{Values, oldest}
@@ -27,7 +28,7 @@ module _ (rs : List ℕ) (s : Records) (c : Chan) (k : ChanState) (ek : k ≡ ch
     abbrev sent : Plan
     sent = or_wait (send_to rs rows s (On c) v next)
 
-    pub send_closed : k.closed ≡ true → Plan.Fail Fault.SendOnClosed (On c) ≡ sent
+    pub send_closed : k.closed ≡ true → Plan.Fail send_on_closed (On c) ≡ sent
     unfolding send_to
     send_closed e = ap (λ q. or_wait (send_on c v next q (first_waiter rs s Receiving c) (has_room rs rows s c))) (sym (closed_is true e))
 
@@ -86,7 +87,7 @@ module _ (rs : List ℕ) (s : Records) (c : Chan) (k : ChanState) (ek : k ≡ ch
     abbrev shut : Plan
     shut = close_port rs s (On c) next
 
-    pub close_closed : k.closed ≡ true → Plan.Fail Fault.CloseOfClosed (On c) ≡ shut
+    pub close_closed : k.closed ≡ true → Plan.Fail close_of_closed (On c) ≡ shut
     unfolding close_port
     close_closed e = ap (λ q. close_on c next q (first_waiter rs s Receiving c) (first_waiter rs s Sending c)) (sym (closed_is true e))
 
@@ -102,7 +103,7 @@ module _ (rs : List ℕ) (s : Records) (c : Chan) (k : ChanState) (ek : k ≡ ch
       close_wakes w h = to (Some w) (first_waiter rs s Sending c) h refl
 
       module _ (none : f ≡ None) (g : Option Waiter) (eg : g ≡ first_waiter rs s Sending c) where
-        pub close_under : (w : Waiter) → g ≡ Some w → Plan.Fail Fault.CloseUnderSender (On c) ≡ shut
+        pub close_under : (w : Waiter) → g ≡ Some w → Plan.Fail close_under_sender (On c) ≡ shut
         close_under w h = to None (Some w) none (sym h ∙ eg)
 
         pub close_idle : g ≡ None → Plan.Shut c next ≡ shut

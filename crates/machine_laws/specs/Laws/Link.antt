@@ -15,8 +15,8 @@ use Rattle.std.proofs.Math.Dec.{ltb}
 use Rattle.std.proofs.Math.ListN.{get_or, set, get_elem?, length-take}
 use Rattle.std.proofs.lemmas.List.{length-map}
 use borrow.Author.Tests.{lt-ltb, le-ltb, ltb-true, ltb-false, eq-eqb, ne_eqb}
-use Rattle.machine_laws.specs.Kinds.{Task, Chan, Row, Port, Nil, On, Op, Send, Forward, Recv, Otherwise, Wait, Go, Statement, Do, Close, Range, Repeat, Ifok, Select, Case, Stop, Status, Able, Waiting, Ended, Event, Appended, Handed, Taken, Refilled, Received, Drained, Closed, Waits, Branched, Finished, TaskState, ChanState, Change, Keep, Append, Take, Refill, Side, Receiving, Sending, Offer, Waiter, Fault, Plan, Refusal}
-use Rattle.meaning.specs.Numbers.{task_limit, channel_limit, capacity_limit, depth_limit, lap_limit, stamp_modulus}
+use Rattle.machine_laws.specs.Kinds.{Task, Chan, Row, Port, Nil, On, Op, Send, Forward, Recv, Otherwise, Wait, Go, Statement, Do, Close, Range, Repeat, Ifok, Select, Case, Stop, Status, Able, Waiting, Ended, Event, Appended, Handed, Taken, Refilled, Received, Drained, Closed, Waits, Branched, Finished, TaskState, ChanState, Change, Keep, Append, Take, Refill, Side, Receiving, Sending, Offer, Waiter, Plan, Refusal}
+use Rattle.meaning.specs.Numbers.{task_limit, channel_limit, capacity_limit, depth_limit, lap_limit, stamp_modulus, send_on_closed, close_of_nil, close_of_closed, close_under_sender}
 use Rattle.meaning.specs.Machine as m
 use Rattle.meaning.specs.Image.{Spot, spot, row_no, image_case, image_cases, image_default, image_repeat, image_statement, image_look}
 use Rattle.meaning.specs.Bytes.{row_count, channel_count, body_of, rows_in, rows_of, capacity_in, tabulate, capacities_of}
@@ -31,7 +31,7 @@ use Rattle.machine_records.specs.Cells.{cons_if, keep}
 use Rattle.machine_records.specs.Records.{Records, blank_task, blank_chan, task_in, chan_in, order_of, got_task, went_task, stood_task, lap_task, task_got, task_went, task_stood, task_lapped, chan_longer, chan_shorter, chan_shut, joined, left}
 use Rattle.machine_records.specs.Values.{Values, row_for, oldest, changed}
 use Rattle.machine_records.specs.Waiters.{case_offer, serves, waits_at, first_waiter, count_waiters}
-use Rattle.machine_records.specs.Plans.{fault_number, did, idle, woken_all, applied}
+use Rattle.machine_records.specs.Plans.{did, idle, woken_all, applied}
 use Rattle.machine_records.specs.Rules as r
 use Rattle.machine_records.specs.Step.{or_wait, no_case, repeated, plan_by, offer_of, plan_of, refusal_of, refused_by, stepped_by, stepped}
 use Rattle.machine_records.specs.View.{standing_of, channel_of, channels_of, view_in, view, turned_of}
@@ -261,9 +261,9 @@ module _ (bs : List ℕ) (sound : Sound bs) (s : Records) (b : Values) (a : Arra
 
     -- PLANS THAT CHANGE NO CHANNEL
 
-    fail_seen : (f : Fault) (p : Port) → ran (Plan.Fail f p) ≡ m.fails me mover seen (fault_number f) p
+    fail_seen : (n : ℕ) (p : Port) → ran (Plan.Fail n p) ≡ m.fails me mover seen n p
     unfolding view_in applied changed
-    fail_seen f p = refl
+    fail_seen n p = refl
 
     branch_seen : (n : Row) → ran (Plan.Branch n) ≡ m.did Branched (moved_to n)
     unfolding view_in applied changed
@@ -294,7 +294,7 @@ module _ (bs : List ℕ) (sound : Sound bs) (s : Records) (b : Values) (a : Arra
           → HeadIs s w ws → FoundHas Partner w → (room ≡ true → (kept c).len < capacity_limit)
           → maybe.map ran (r.send_on c v hit q w room) ≡ m.send_on me mover seen c v by q ws room
       unfolding m.send_on view_in applied changed
-      send_clauses v true w ws room hd p fits = ap some (fail_seen Fault.SendOnClosed (On c))
+      send_clauses v true w ws room hd p fits = ap some (fail_seen send_on_closed (On c))
       send_clauses v false None [] true hd p fits =
           ap some (did_seen (Appended c v) (task_went (chan_longer s c) me hit) (Append c (kept c).len v) _ _ _ (moves (went_task x hit)) refl
           (channels_appended caps s b a c (declared c h) (few c h) v (fits refl)))
@@ -405,18 +405,18 @@ module _ (bs : List ℕ) (sound : Sound bs) (s : Records) (b : Values) (a : Arra
       close_clauses : (q : Bool) (i j : Option Waiter) (vs ws : List (m.Waiter Spot)) → HeadIs s i vs → HeadIs s j ws → walked rs s Receiving c (order_of s) ≡ vs
           → ran (r.close_on c n q i j) ≡ m.close_on me mover seen c (spot x.laps n) q vs ws
       unfolding m.close_on m.wake_all
-      close_clauses true i j vs ws d g w = fail_seen Fault.CloseOfClosed (On c)
+      close_clauses true i j vs ws d g w = fail_seen close_of_closed (On c)
       close_clauses false (Some f) j [] ws d g w = absurd d
       close_clauses false (Some f) j (v ∷ vs) ws d g w = shut_seen (v ∷ vs) w
       close_clauses false None j (v ∷ vs) ws d g w = absurd d
       close_clauses false None (Some f) [] [] d g w = absurd g
-      close_clauses false None (Some f) [] (v ∷ ws) d g w = fail_seen Fault.CloseUnderSender (On c)
+      close_clauses false None (Some f) [] (v ∷ ws) d g w = fail_seen close_under_sender (On c)
       close_clauses false None None [] (v ∷ ws) d g w = absurd g
       close_clauses false None None [] [] d g w = shut_seen [] w
 
     close_seen : (p : Port) (n : Row) → PortSound (channel_count bs) p → ran (r.close_port rs s p n) ≡ m.close look me choice mover seen p (spot x.laps n)
     unfolding m.close r.close_port
-    close_seen Nil n h = fail_seen Fault.CloseOfNil Nil
+    close_seen Nil n h = fail_seen close_of_nil Nil
     close_seen (On c) n h =
         let first : Side → Option Waiter = λ side. first_waiter rs s side c in
         rw (closed_is c h)

@@ -21,7 +21,7 @@ use Rattle.machine_records.specs.Records.{Records, blank_task, blank_chan, task_
 use Rattle.machine_records.specs.Laws.Sized.{Laps, Sized}
 use Rattle.machine_records.specs.Values.{Values, row_for, shifted, with_value, without_first, changed}
 use Rattle.machine_records.specs.Waiters.{waits_at}
-use Rattle.machine_records.specs.Plans.{Done, fault_number, idle, woken_by, woken_tasks, applied}
+use Rattle.machine_records.specs.Plans.{Done, idle, woken_by, woken_tasks, applied}
 use Rattle.machine_records.specs.Step.{plan_of, refused_by, stepped_by, stepped}
 use Rattle.machine_records.specs.View.{channel_of, view_in, view}
 use Rattle.machine_laws.specs.Laws.Fit.{Arrays, Fit}
@@ -187,7 +187,7 @@ module _ (s : Records) (line : length s.order ≡ task_limit) (full : length s.c
 
     plan_kept : (p : Plan) → Shape s (applied rs s me p).after
     unfolding applied
-    plan_kept (Plan.Fail f p) = kept_ticked (kept_halted kept_all (fault_number f) me)
+    plan_kept (Plan.Fail f p) = kept_ticked (kept_halted kept_all f me)
     plan_kept Plan.Wait = kept_ticked (kept_joined (kept_task kept_all me _ (λ l. l)) me)
     plan_kept (Plan.Branch r) = kept_ticked (kept_task kept_all me _ (λ l. l))
     plan_kept (Plan.Lap d k r) =
