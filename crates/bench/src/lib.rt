@@ -24,7 +24,11 @@ const BY_VALUE: u8 = 1;
 
 const WHOLE: u8 = 2;
 
+// Kept, point 2: three loops of one shape, so that the compiler lays each turn into its own, as in the product; one loop over a closure
+// would be another thing to count.
+
 // The same turn in place again and again, each on a copy of one state. Answers the stamp behind the last one.
+#[tactic(auto, using(crate::specs::Laws::Bench::rounds_begin, crate::specs::Laws::Bench::rounds_again, crate::specs::Laws::Bench::rounds_end))]
 fn step_rounds(
     body: &[u8],
     rows: u16,
@@ -37,12 +41,10 @@ fn step_rounds(
     ensures { result ≡ step_rounds body.now rows values.now t choice n from }
 {
     let mut stamp = from.stamp();
-    let mut left = n;
-    while 0 < left {
+    for made in 0..n {
         let mut s = from;
         let _m = step_in(body, rows, &mut s, values, t, choice);
         stamp = s.stamp();
-        left = left - 1;
     }
     stamp
 }
@@ -63,6 +65,7 @@ fn step_by_value(
 }
 
 // The same turn by value again and again.
+#[tactic(auto, using(crate::specs::Laws::Bench::rounds_begin, crate::specs::Laws::Bench::rounds_again, crate::specs::Laws::Bench::rounds_end))]
 fn value_rounds(
     body: &[u8],
     rows: u16,
@@ -75,16 +78,15 @@ fn value_rounds(
     ensures { result ≡ step_rounds body.now rows values.now t choice n from }
 {
     let mut stamp = from.stamp();
-    let mut left = n;
-    while 0 < left {
+    for made in 0..n {
         let after = step_by_value(body, rows, from, values, t, choice);
         stamp = after.stamp();
-        left = left - 1;
     }
     stamp
 }
 
 // The same of whole turns by value.
+#[tactic(auto, using(crate::specs::Laws::Bench::rounds_begin, crate::specs::Laws::Bench::rounds_again, crate::specs::Laws::Bench::rounds_end))]
 fn turn_rounds(
     image: &[u8],
     from: State,
@@ -96,12 +98,10 @@ fn turn_rounds(
     ensures { result ≡ turn_rounds image.now values t choice n from }
 {
     let mut stamp = from.stamp();
-    let mut left = n;
-    while 0 < left {
+    for made in 0..n {
         let r = turn(image, from, values, t, choice);
         let after = r.state;
         stamp = after.stamp();
-        left = left - 1;
     }
     stamp
 }
@@ -135,17 +135,11 @@ fn after_pairs(image: &[u8], pairs: &[u8], way: u8, task: Task, choice: u8, roun
     let begun = start(image);
     let mut s = begun.state;
     let mut values = fresh_values();
-    let mut i = 0;
-    while 1 < pairs.len() - i {
-        let t = pairs[i];
-        let c = pairs[i + 1];
-        let r = turn(image, s, values, Task(t), c);
-        let change = r.change;
-        let after = stored(values, change);
+    for i in 0..(pairs.len() / 2) {
+        let r = turn(image, s, values, Task(pairs[2 * i]), pairs[2 * i + 1]);
+        let after = stored(values, r.change);
         values = after;
-        let next = r.state;
-        s = next;
-        i = i + 2;
+        s = r.state;
     }
     rounds_of(image, way, s, values, task, choice, rounds)
 }

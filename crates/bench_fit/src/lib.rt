@@ -22,14 +22,16 @@ fn lead_on(body: &[u8], rows: u16, state: &mut State, pairs: &[u8])
     ensures { Made state.old state.new (λ s. led_on body.now rows pairs.now s fresh_values) }
 {
     let mut values = fresh_values();
-    let mut i = 0;
-    while 1 < pairs.len() - i {
-        let t = Task(pairs[i]);
-        let c = pairs[i + 1];
-        let m = step_in(body, rows, state, &values, t, c);
-        let change = m.change;
-        store_in(&mut values, change);
-        i = i + 2;
+    for i in 0..(pairs.len() / 2) {
+        let m = step_in(
+            body,
+            rows,
+            state,
+            &values,
+            Task(pairs[2 * i]),
+            pairs[2 * i + 1],
+        );
+        store_in(&mut values, m.change);
     }
 }
 
@@ -39,11 +41,9 @@ fn fit_rounds(body: &[u8], k: Counts, from: State, n: u32) -> u16
 {
     let mut state = from;
     let mut count: u16 = 0;
-    let mut left = n;
-    while 0 < left {
-        left = left - 1;
+    for asked in 0..n {
         if fits(body, k, &state) {
-            count = std::num::wrapping_add_u16(count, 1);
+            count = count.wrapping_add(1);
         } else {
             state = State {
                 words: [0u16; STATE_WORDS],

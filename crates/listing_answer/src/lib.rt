@@ -51,6 +51,7 @@ pub fn behind(s: &[u8], n: usize) -> &[u8]
 // THE ANSWER
 
 // A place, or a number of pairs, in two bytes. Neither is over 48,000, so that the remainder changes nothing (specs/Laws/Places).
+// Kept, point 4: no conversion of the library takes a remainder, and `try_from` would make a refusal that never comes.
 fn narrow(n: usize) -> u16
     ensures { result ≡ n % 65536 }
 {

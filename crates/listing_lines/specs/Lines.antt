@@ -1,6 +1,7 @@
 -- The lines of a listing, as bytes: document 01, 'A listing, whole'.
 use Rattle.std.specs.Prelude.{◌≡◌, Bool, true, false, cond, List, [], ◌∷◌, ◌++◌, ℕ, zero, suc, ◌+◌, ◌/◌, ◌%◌, ltb, take}
-use Rattle.listing_lines.specs.Kinds.{Chan, Status, Able, Waiting, Ended, Task, ChanState, TaskState, Line, EventNumbers}
+use Rattle.meaning.specs.Statuses.{status_number}
+use Rattle.listing_lines.specs.Kinds.{Chan, Task, ChanState, TaskState, Line, EventNumbers}
 
 -- A line shows its bytes: a text. And one line that shows more than another, by these bytes.
 abbrev pub line_size : ℕ
@@ -34,12 +35,6 @@ spaced (n ∷ ns) = 32 ∷ decimal_of n ++ spaced ns
 
 abbrev pub line_of : List ℕ → List ℕ → List ℕ
 line_of first ns = first ++ spaced ns ++ (10 ∷ [])
-
--- "status (0 able to move, 1 waiting, 2 ended)"
-abbrev pub status_number : Status → ℕ
-status_number Able = 0
-status_number Waiting = 1
-status_number Ended = 2
 
 abbrev pub flag : Bool → ℕ
 flag false = 0

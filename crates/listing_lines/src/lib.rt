@@ -3,13 +3,13 @@
 
 ghost use Rattle.std.specs.Prelude.{◌≡◌, ◌++◌, ◌∷◌, [], ◌+◌, ◌*◌, ◌≤◌, ◌<◌, length};
 ghost use Rattle.meaning.specs.Events.{numbers};
-ghost use Rattle.listing_lines.specs.Lines.{status_number, line_size, text_of, Blank, Adds, Shows, decimal_of, spaced, line_of, refused_line, turn_line, task_line, chan_line, stamp_line, bad_schedule_line, too_long_line};
+ghost use Rattle.listing_lines.specs.Lines.{line_size, text_of, Blank, Adds, Shows, decimal_of, spaced, line_of, refused_line, turn_line, task_line, chan_line, stamp_line, bad_schedule_line, too_long_line};
 
 use arrayvec::ArrayVec;
 use events::event_numbers;
 use machine_records::{ChanState, TaskState};
 use meaning::sizes::CELLS;
-use meaning::{Chan, Event, Status, Task};
+use meaning::{Chan, Event, Task};
 
 // The longest line is a channel's: a word of four bytes, nineteen numbers of up to five digits, each behind a blank, and the newline.
 pub const LINE_SIZE: usize = 128;
@@ -125,16 +125,6 @@ pub fn turn_line(pair: u16, task: u8, event: Event) -> Line
     line
 }
 
-fn status_number(s: Status) -> u16
-    ensures { result ≡ status_number s }
-{
-    match s {
-        Status::Able => 0,
-        Status::Waiting => 1,
-        Status::Ended => 2,
-    }
-}
-
 // Task, status, register, ok, row.
 pub fn task_line(task: Task, x: TaskState) -> Line
     ensures { Shows result (task_line task x) }
@@ -143,7 +133,7 @@ pub fn task_line(task: Task, x: TaskState) -> Line
         b"task",
         &[
             u16::from(task.0),
-            status_number(x.status),
+            u16::from(u8::from(x.status)),
             x.register,
             u16::from(x.ok),
             x.row.0,

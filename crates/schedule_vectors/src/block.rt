@@ -200,6 +200,7 @@ fn is_due(outcome: Result<usize, Unmade>, due: &Due) -> bool {
 }
 
 // Whether every word and every cell is the same.
+// Kept, point 4: `State` derives no `==`, since nothing in the product compares states.
 fn is_same_state(a: State, b: State) -> bool {
     a.words.as_slice() == b.words.as_slice() && a.cells.as_slice() == b.cells.as_slice()
 }
