@@ -145,6 +145,7 @@ pub fn missed_at(body: &[u8], side: Side, c: Chan, row: Row) -> Option<Row>
 }
 
 // The task that has waited longest on this side of the channel.
+#[inline(always)]
 pub fn first_waiter(body: &[u8], state: &State, side: Side, c: Chan) -> Option<Waiter>
     ensures { result ≡ first_waiter body.now (records_of state.now) side c }
 {
