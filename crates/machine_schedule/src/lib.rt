@@ -17,7 +17,8 @@ use machine_turns::{Scheduled, Unmade, outcome_of};
 use meaning::Task;
 use meaning::sizes::{CELLS, CHANS};
 
-// The values are sixteen rows of sixteen: what a caller that has them lent cannot see of the rows. It compiles to nothing.
+// The values are sixteen rows of sixteen. It compiles to nothing.
+// Kept, point 5: what the rows of an array of arrays behind a `&mut` hold the check does not know; a value says it.
 fn sixteen(values: [[u16; CELLS as usize]; CHANS as usize]) -> bool
     ensures { Sixteen values }
 {
