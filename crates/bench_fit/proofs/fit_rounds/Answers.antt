@@ -16,10 +16,10 @@ loop-asked-preserved c =
     let left : a.n - l.asked - 1 ≡ n = omega arith in
     let round = rw left at (fit_round a.body.now a.k (a.n - l.asked) l.count l.state.words l.state.cells (omega arith)) in
     let told : cond (fitting_in a.body.now a.k l.state.words l.state.cells) (rounds n ((l.count + 1) % 65536) l.state) (rounds n l.count cleared) ≡ rounds n c.if-fits.count c.if-fits.state =
-        elim c.if-fits.branch [
-          | then-fits w ↦ rw (← c.fits.ensures, w.if-fits.true, w.count-is, w.state-is)
-          | else-fits w ↦ rw (← c.fits.ensures, w.if-fits.false, w.count-is, w.state-is)
-        ] in
+    elim c.if-fits.branch [
+      | then-fits w ↦ rw (← c.fits.ensures, w.if-fits.true, w.count-is, w.state-is)
+      | else-fits w ↦ rw (← c.fits.ensures, w.if-fits.false, w.count-is, w.state-is)
+    ] in
     l.invariant ∙ round ∙ told
 
 pub returns : goal.returns
