@@ -17,6 +17,8 @@ pub struct Run {
 }
 
 // Why an input runs nothing: each is answered by one line that stands alone.
+// Kept, point 1: a refused text has number and place, not the translator's own reason, since `refused` of listing_session/specs/Laws/Whole
+// says of every number and every place which line it is.
 #[derive(Clone, Copy)]
 pub enum Unlisted {
     TooLong,

@@ -27,9 +27,9 @@ longer c v = record { capacity = c.capacity; closed = c.closed; len = c.len + 1;
 abbrev pub shorter : Channel → Channel
 shorter c = record { capacity = c.capacity; closed = c.closed; len = c.len - 1; values = shifted c.values c.len }
 
--- The channel behind an append, and behind a take: as it was, where the answer is no.
-abbrev pub appended_to : Channel → ℕ → Channel
-appended_to c v = cond (has_room c) (longer c v) c
+-- The channel behind an append, where there is room; and behind a take: as it was, where there is no value.
+abbrev pub appended_to : Channel → ℕ → Option Channel
+appended_to c v = cond (has_room c) (Some (longer c v)) None
 
 abbrev pub shortened : Channel → Channel
 shortened c = cond (has_value c) (shorter c) c

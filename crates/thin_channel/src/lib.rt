@@ -1,7 +1,7 @@
 // One channel record, lent for append and take and updated where it is.
 #![tactic(auto)]
 
-ghost use Rattle.std.specs.Prelude.{◌≡◌};
+ghost use Rattle.std.specs.Prelude.{◌≡◌, is_some, unwrap_or};
 ghost use Rattle.thin_channel.specs.Channels.{has_room, has_value, appended_to, taken_from, shortened};
 
 use machine_buffer::shift;
@@ -33,8 +33,8 @@ impl Channel {
 
     // Appends v behind the youngest value and answers true; where there is no room, changes nothing and answers false.
     pub fn append(&mut self, v: u16) -> bool
-        ensures answer { result ≡ has_room self.old }
-        ensures after { self.new ≡ appended_to self.old v }
+        ensures answer { result ≡ is_some (appended_to self.old v) }
+        ensures after { self.new ≡ unwrap_or (appended_to self.old v) self.old }
     {
         if !self.has_room() {
             return false;

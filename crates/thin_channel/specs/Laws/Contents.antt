@@ -1,5 +1,5 @@
 -- What append and take come to, in the values that a channel holds, oldest first.
-use Rattle.std.specs.Prelude.{◌≡◌, true, false, [], ◌∷◌, ◌++◌, ℕ, ◌-◌, ◌≤◌, ◌<◌, length, drop, replicate, Some, None}
+use Rattle.std.specs.Prelude.{◌≡◌, true, false, [], ◌∷◌, ◌++◌, ℕ, ◌-◌, ◌≤◌, ◌<◌, length, drop, replicate, Some, None, is_some, unwrap_or}
 use Rattle.std.proofs.Common.{ap, ◌∙◌, add-one, arith, leb-true, ltb-true, length-take, length-drop, take-suc-set, drop-cons, get_or-take}
 use Rattle.meaning.specs.Numbers.{capacity_limit}
 use Rattle.meaning.specs.Laws.Tests.{both}
@@ -8,15 +8,15 @@ use Rattle.thin_channel.specs.Kinds.{Channel}
 use Rattle.thin_channel.specs.Channels.{contents, has_room, has_value, oldest, shorter, appended_to, shortened, taken_from}
 
 -- Append puts v behind the youngest value, where there is room.
-pub append_adds : (c : Channel) (v : ℕ) → length c.values ≡ capacity_limit → has_room c ≡ true → contents (appended_to c v) ≡ contents c ++ (v ∷ [])
+pub append_adds : (c : Channel) (v : ℕ) → length c.values ≡ capacity_limit → has_room c ≡ true → (is_some (appended_to c v) ≡ true) × (contents (unwrap_or (appended_to c v) c) ≡ contents c ++ (v ∷ []))
 append_adds c v cells room =
     let tests = both _ _ room in
     let fits : c.capacity ≤ capacity_limit = leb-true _ _ tests.0 in
     let below : c.len < c.capacity = ltb-true _ _ tests.1 in
-    rw (room, add-one) (take-suc-set c.values c.len v (omega arith))
+    (rw room, rw (room, add-one) (take-suc-set c.values c.len v (omega arith)))
 
-pub append_refuses : (c : Channel) (v : ℕ) → has_room c ≡ false → appended_to c v ≡ c
-append_refuses c v full = rw full
+pub append_refuses : (c : Channel) (v : ℕ) → has_room c ≡ false → (is_some (appended_to c v) ≡ false) × (unwrap_or (appended_to c v) c ≡ c)
+append_refuses c v full = (rw full, rw full)
 
 -- Take hands out the oldest value and leaves the others, in their order, where there is a value.
 pub take_takes : (c : Channel) → length c.values ≡ capacity_limit → has_value c ≡ true → (taken_from c ≡ Some (oldest c)) × (contents c ≡ oldest c ∷ contents (shortened c))
