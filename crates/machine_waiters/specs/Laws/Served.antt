@@ -166,5 +166,23 @@ module _ (rs : List ℕ) (s : Records) (side : Side) (c : Chan) (l16 : length s.
     pub walk_hit : (f : Offer) → g ≡ Some f → from i ≡ Some (record { task = t; offer = f })
     walk_hit f e = walk ∙ ap (λ x. found_by t x (from (i + 1))) e
 
+  waits_here : (t : Task) (row : Row) (f : Option ℕ) → row ≡ (task_in s.tasks t).row → f ≡ served_at rs side c row → waits_at rs s side c t ≡ served_offer rs f
+  waits_here t row f er ef = ap (matched_at rs side c) (sym er) ∙ sym (served_matched rs side c row) ∙ ap (served_offer rs) (sym ef)
+
+  -- The same lap by the row f that serves the task's row: there is none; there is one, and it offers o; it offers nothing.
+  module _ (i : ℕ) (t : Task) (row : Row) (f : Option ℕ) (h : i < s.waiting % 17) (et : t ≡ get_or s.order (i % 16) (task_no 0)) (er : row ≡ (task_in s.tasks t).row) (ef : f ≡ served_at rs side c row) where
+    walk_served : (g : Option Offer) → served_offer rs f ≡ g → from i ≡ found_by t g (from (i + 1))
+    walk_served g e = lap i t h et ∙ ap (λ x. found_by t x (from (i + 1))) (waits_here t row f er ef ∙ e)
+
+    pub walk_unserved : f ≡ None → from i ≡ from (i + 1)
+    walk_unserved e = walk_served None (ap (served_offer rs) e)
+
+    module _ (n : ℕ) (e : f ≡ Some n) (g : Option Offer) (eg : g ≡ row_offer (rows_in rs (row_no n))) where
+      pub walk_offered : (o : Offer) → g ≡ Some o → from i ≡ Some (record { task = t; offer = o })
+      walk_offered o z = walk_served (Some o) (ap (served_offer rs) e ∙ sym eg ∙ z)
+
+      pub walk_miss : g ≡ None → from i ≡ from (i + 1)
+      walk_miss z = walk_served None (ap (served_offer rs) e ∙ sym eg ∙ z)
+
   pub walked : (i : ℕ) → s.waiting % 17 ≤ i → from i ≡ None
   walked i h = rw (drop_of_length-le (take (s.waiting % 17) s.order) {i = i} (simp length-take (omega arith)))
