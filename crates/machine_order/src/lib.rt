@@ -12,7 +12,8 @@ use meaning::sizes::TASKS;
 
 // The task waits, behind all others.
 pub fn join(state: &mut State, t: Task)
-    ensures { Made state.old state.new (λ s. joined s t) }
+    ensures made { Made state.old state.new (λ s. joined s t) }
+    ensures words { state.new.words ≡ state.old.words }
 {
     let n = state.cells[WAITING] % TASKS;
     state.cells[ORDER + (n as usize)] = t.0;
@@ -21,7 +22,8 @@ pub fn join(state: &mut State, t: Task)
 
 // These tasks stand in the order's cells, and so many of them wait.
 pub fn put_order(state: &mut State, order: [Task; TASKS as usize], n: u8)
-    ensures { Made state.old state.new (λ s. with_order s order n) }
+    ensures made { Made state.old state.new (λ s. with_order s order n) }
+    ensures words { state.new.words ≡ state.old.words }
 {
     for i in 0..(TASKS as usize) {
         state.cells[ORDER + i] = order[i].0;
@@ -31,7 +33,8 @@ pub fn put_order(state: &mut State, order: [Task; TASKS as usize], n: u8)
 
 // The task waits no longer.
 pub fn leave(state: &mut State, t: Task)
-    ensures { Made state.old state.new (λ s. left s t) }
+    ensures made { Made state.old state.new (λ s. left s t) }
+    ensures words { state.new.words ≡ state.old.words }
 {
     let mut kept = [Task(0); TASKS as usize];
     let mut w: u8 = 0;

@@ -172,14 +172,16 @@ impl State {
 
     // The task stays where it is, with another status.
     pub fn stood(&mut self, t: Task, status: Status)
-        ensures { Made self.old self.new (λ s. task_stood s t status) }
+        ensures made { Made self.old self.new (λ s. task_stood s t status) }
+        ensures words { self.new.words ≡ self.old.words }
     {
         self.cells[(t.0 % TASKS) as usize] = u8::from(status);
     }
 
     // So many laps are begun in the repeat at depth d.
     pub fn lapped(&mut self, t: Task, d: u8, laps: u8)
-        ensures { Made self.old self.new (λ s. task_lapped s t d laps) }
+        ensures made { Made self.old self.new (λ s. task_lapped s t d laps) }
+        ensures words { self.new.words ≡ self.old.words }
     {
         let i = (t.0 % TASKS) as usize;
         let k = (d % DEPTH) as usize;
@@ -187,7 +189,8 @@ impl State {
     }
 
     pub fn put_channel(&mut self, c: Chan, x: ChanState)
-        ensures { Made self.old self.new (λ s. with_chan s c x) }
+        ensures made { Made self.old self.new (λ s. with_chan s c x) }
+        ensures words { self.new.words ≡ self.old.words }
     {
         let i = (c.0 % CHANS) as usize;
         self.cells[CLOSED + i] = u8::from(x.closed);
@@ -196,7 +199,8 @@ impl State {
 
     // The halt record.
     pub fn halt(&mut self, fault: u8, t: Task)
-        ensures { Made self.old self.new (λ s. halted s fault t) }
+        ensures made { Made self.old self.new (λ s. halted s fault t) }
+        ensures words { self.new.words ≡ self.old.words }
     {
         self.cells[FAULT] = fault;
         self.cells[NAMED] = t.0;
@@ -204,7 +208,8 @@ impl State {
 
     // The image's counts of tasks and channels.
     pub fn put_counts(&mut self, tasks: u8, channels: u8)
-        ensures { Made self.old self.new (λ s. with_counts s tasks channels) }
+        ensures made { Made self.old self.new (λ s. with_counts s tasks channels) }
+        ensures words { self.new.words ≡ self.old.words }
     {
         self.cells[TASK_COUNT] = tasks;
         self.cells[CHAN_COUNT] = channels;
@@ -212,7 +217,8 @@ impl State {
 
     // "65,535 is followed by 0."
     pub fn tick(&mut self)
-        ensures { Made self.old self.new (λ s. ticked s) }
+        ensures made { Made self.old self.new (λ s. ticked s) }
+        ensures cells { self.new.cells ≡ self.old.cells }
     {
         self.words[STAMP] = self.words[STAMP].wrapping_add(1);
     }

@@ -14,7 +14,7 @@ use Rattle.machine.proofs.fresh.Goals as goal
 pub loop-t-init : goal.loop-t-init
 loop-t-init c =
     let a = c.args in
-    let e = c.put_counts.ensures in
+    let e = c.put_counts.ensures.made in
     let z = c.no_state-state.ensures in (
       fresh_counted a.body.now a.k a.k.tasks a.k.channels _ (e.same ∙ ap (λ (s : State). with_counts (records_of s) a.k.tasks a.k.channels) z),
       (e.plain (subst (λ (s : State). Plain s.cells) (sym z) blank_plain), e.whole (subst (λ (s : State). Whole s) (sym z) (refl, refl))),

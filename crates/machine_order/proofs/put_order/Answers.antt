@@ -1,4 +1,4 @@
-use mathlib.Core.Path.{◌≡◌}
+use mathlib.Core.Path.{◌≡◌, refl}
 use native.Mathlib.Omega.{arith}
 use borrow.Author.Rules.{rules}
 use Rattle.machine_records.specs.Laws.Cells.{length_mapped}
@@ -9,4 +9,4 @@ pub returns : goal.returns
 returns c =
     let a = c.args in
     let e : c.loop-i.i ≡ 16 = omega arith in
-    rw (c.loop-i.invariant, e) (order_made a.state.now.words a.state.now.cells (search rules) a.order (search (rules, length_mapped)) a.n)
+    rw (c.loop-i.invariant, e) (record { made = order_made a.state.now.words a.state.now.cells (search rules) a.order (search (rules, length_mapped)) a.n; words = refl })

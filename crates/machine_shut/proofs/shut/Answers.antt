@@ -13,7 +13,7 @@ unfolding applied
 returns c =
     let a = c.args in
     let s = records_of a.state.now in
-    let closed = made_as (λ s. chan_shut s a.c) c.put_channel.ensures (ap (λ (k : ChanState). with_chan s a.c (record { closed = true; len = k.len })) c.channel-k.ensures) in
+    let closed = made_as (λ s. chan_shut s a.c) c.put_channel.ensures.made (ap (λ (k : ChanState). with_chan s a.c (record { closed = true; len = k.len })) c.channel-k.ensures) in
     let moved = made_then closed c.went.ensures in
     let woken = c.wake_all-woken.ensures s (began_here moved refl refl) in
     let made = made_as (λ s. woken_all a.body.now s a.c (task_went (chan_shut s a.c) a.me a.next)) (made_then moved woken.made) refl in
