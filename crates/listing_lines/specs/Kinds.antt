@@ -6,4 +6,4 @@ pub use Rattle.meaning.specs.declared.Status.TheVariants.{Able, Waiting, Ended}
 pub use Rattle.meaning.specs.declared.EventNumbers.{EventNumbers}
 pub use Rattle.machine_records.specs.declared.TaskState.{TaskState}
 pub use Rattle.machine_records.specs.declared.ChanState.{ChanState}
-pub use Rattle.listing_lines.specs.declared.Line.{Line}
+pub use Rattle.listing_lines.specs.Line.{Line}

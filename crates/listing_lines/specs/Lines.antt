@@ -8,7 +8,7 @@ abbrev pub line_size : ℕ
 line_size = 128
 
 abbrev pub text_of : Line → List ℕ
-text_of l = l.bytes.items
+text_of l = l.bytes
 
 abbrev pub Shows : Line → List ℕ → Type 0
 Shows l text = text_of l ≡ text

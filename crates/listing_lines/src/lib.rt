@@ -5,19 +5,41 @@ ghost use Rattle.std.specs.Prelude.{◌≡◌, ◌++◌, ◌∷◌, [], ◌+◌,
 ghost use Rattle.meaning.specs.Events.{numbers};
 ghost use Rattle.listing_lines.specs.Lines.{line_size, text_of, Blank, Adds, Shows, decimal_of, spaced, line_of, refused_line, turn_line, task_line, chan_line, stamp_line, bad_schedule_line, too_long_line};
 
-use arrayvec::ArrayVec;
 use events::event_numbers;
 use machine_records::{ChanState, TaskState};
 use meaning::sizes::CELLS;
 use meaning::{Chan, Event, Task};
+use std::marker::Model;
 
 // The longest line is a channel's: a word of four bytes, nineteen numbers of up to five digits, each behind a blank, and the newline.
 pub const LINE_SIZE: usize = 128;
 
-// The bytes of a line, newline included.
-#[derive(Drop)]
+// A line: the first `len` of its bytes, newline included, with zeros behind. A contract sees the first alone.
+// Kept, point 6: a line is `Copy`; the library's `ArrayVec` is not, and of its `ArrayString` the unused bytes are part of the value.
+#[derive(Clone, Copy)]
 pub struct Line {
-    bytes: ArrayVec<u8, LINE_SIZE>,
+    bytes: [u8; LINE_SIZE],
+    len: usize,
+}
+
+impl Model for Line {
+    ghost use Rattle.std.specs.Prelude.{◌≡◌, ◌≤◌, ◌-◌, ◌++◌, length, take, drop, replicate};
+    ghost use Rattle.std.proofs.Common.{arith, length-take-le};
+    ghost use Rattle.listing_lines.specs.Line.{Line as Shown};
+    ghost use Rattle.listing_lines.specs.Laws.Padded.{padded};
+
+    ghost Value = { Shown };
+
+    ghost view = { λ l. record { bytes = take l.len l.bytes } };
+
+    ghost invariant = { λ l. (l.len ≤ 128) × (length l.bytes ≡ 128) × (drop l.len l.bytes ≡ replicate (128 - l.len) 0) };
+
+    ghost inverse = { λ l. record { bytes = l.bytes ++ replicate (128 - length l.bytes) 0; len = length l.bytes } };
+
+    ghost inverse_ok = { λ l h i. record {
+      bytes = padded l.bytes l.len h.0 h.1 h.2 i;
+      len = length-take-le l.len l.bytes (omega (arith, h.0, h.1)) i;
+    } };
 }
 
 // BUILDING
@@ -27,7 +49,8 @@ impl Line {
         ensures { Blank result }
     {
         Line {
-            bytes: ArrayVec::new(),
+            bytes: [0; LINE_SIZE],
+            len: 0,
         }
     }
 
@@ -35,14 +58,15 @@ impl Line {
     pub fn text(&self) -> &[u8]
         ensures { result.now ≡ text_of self.now }
     {
-        self.bytes.as_slice()
+        &self.bytes[..self.len]
     }
 
     fn byte(&mut self, b: u8)
         requires { length (text_of self.old) < line_size }
         ensures { Adds self.old (b ∷ []) self.new }
     {
-        self.bytes.push(b);
+        self.bytes[self.len] = b;
+        self.len += 1;
     }
 
     fn word(&mut self, word: &[u8])

@@ -32,7 +32,7 @@ pub struct Session {
 }
 
 // A line, the session behind it, and what its turn does to the values.
-#[derive(Drop)]
+#[derive(Clone, Copy)]
 pub struct Listed {
     pub line: Line,
     pub session: Session,

@@ -1,7 +1,7 @@
 -- What is printed would be read back: the digits of a number are a number of document 01, with that value. The laws of lines that
 -- are built up stand here too; the proofs of the code cite them. Assumes nothing.
-use Rattle.std.specs.Prelude.{◌≡◌, refl, Bool, true, false, cond, ◌&&◌, List, [], ◌∷◌, ◌++◌, ℕ, zero, suc, ◌+◌, ◌-◌, ◌*◌, ◌/◌, ◌%◌, ◌≤◌, ◌<◌, min, eqb, leb, ltb, length, get_or, take, drop, replicate}
-use Rattle.std.proofs.Common.{sym, ap, ◌∙◌, append_assoc, append-nil, add-one, arith, lt-ltb, le-ltb, ltb-true, ltb-false, le-leb, leb-true, leb-false, eq-eqb, ne_eqb, length-append, take-suc, take_all, drop-drop}
+use Rattle.std.specs.Prelude.{◌≡◌, refl, Bool, true, false, cond, ◌&&◌, List, [], ◌∷◌, ◌++◌, ℕ, zero, suc, ◌+◌, ◌-◌, ◌*◌, ◌/◌, ◌%◌, ◌≤◌, ◌<◌, min, eqb, leb, ltb, length, get_or, take}
+use Rattle.std.proofs.Common.{sym, ap, ◌∙◌, append_assoc, append-nil, add-one, arith, lt-ltb, le-ltb, ltb-true, ltb-false, le-leb, leb-true, leb-false, eq-eqb, ne_eqb, length-append, take-suc, take_all}
 use Rattle.std.proofs.Math.ListN.{get_or-append}
 use Rattle.meaning.specs.Events.{event}
 use Rattle.text_words.specs.Words.{run, is_digit, only_digits, leading_zero, is_number, decimal}
@@ -162,24 +162,15 @@ shows_word = shows_all
 pub shows_line : (l m r : Line) (first ns : List ℕ) → Blank l → Adds l first m → Adds m (spaced ns ++ (10 ∷ [])) r → Shows r (line_of first ns)
 shows_line l m r first ns e a b = rw (append_assoc first (spaced ns) (10 ∷ [])) (shows_all l r (first ++ (spaced ns ++ (10 ∷ []))) e (adds_more l m r first (spaced ns ++ (10 ∷ [])) a b))
 
--- Lists that are the same behind a place, and the zeros behind a place.
-kept_behind : (u w : List ℕ) (n k : ℕ) → drop n u ≡ drop n w → drop (n + k) u ≡ drop (n + k) w
-kept_behind u w n k e = sym (drop-drop k n u) ∙ ap (drop k) e ∙ drop-drop k n w
-
-drop_same : {A : Type 0} (x : A) (n m : ℕ) → drop n (replicate m x) ≡ replicate (m - n) x
-drop_same x zero m = let e : m - 0 ≡ m = omega arith in rw e
-drop_same x (suc n) zero = let e : 0 - suc n ≡ 0 = omega arith in rw e
-drop_same x (suc n) (suc m) = let e : suc m - suc n ≡ m - n = omega arith in rw e (drop_same x n m)
-
 -- Only one line shows a text, and it has the text's length.
 pub shown_length : (l : Line) (text : List ℕ) → Shows l text → length (text_of l) ≡ length text
 shown_length l text s = ap length s
 
-shown_bytes : (l : Line) (text : List ℕ) → Shows l text → l.bytes.items ≡ text
+shown_bytes : (l : Line) (text : List ℕ) → Shows l text → l.bytes ≡ text
 shown_bytes l text s = s
 
 pub shown_once : (l r : Line) (text : List ℕ) → Shows l text → Shows r text → l ≡ r
-shown_once l r text s t = ap (λ (b : List ℕ). record { bytes = record { items = b } }) (shown_bytes l text s ∙ sym (shown_bytes r text t))
+shown_once l r text s t = ap (λ (b : List ℕ). record { bytes = b }) (shown_bytes l text s ∙ sym (shown_bytes r text t))
 
 -- Numbers in two parts.
 pub line_append : (first ns ms : List ℕ) → line_of (first ++ spaced ns) ms ≡ line_of first (ns ++ ms)
