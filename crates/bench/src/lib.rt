@@ -20,6 +20,7 @@ use meaning::sizes::{CELLS, CHANS};
 pub mod translation;
 
 // The ways of `bench_rounds`: by value, and whole turns; any other is in place.
+// Kept, point 1: C gives the way as a number (crate bench_c).
 const BY_VALUE: u8 = 1;
 
 const WHOLE: u8 = 2;

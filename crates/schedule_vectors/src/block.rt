@@ -202,15 +202,7 @@ fn is_due(outcome: Result<usize, Unmade>, due: &Due) -> bool {
 // Whether every word and every cell is the same.
 // Kept, point 4: `State` derives no `==`, since nothing in the product compares states.
 fn is_same_state(a: State, b: State) -> bool {
-    a.words.as_slice() == b.words.as_slice() && a.cells.as_slice() == b.cells.as_slice()
-}
-
-// Whether every channel has the same values, those behind its length too.
-fn are_same_values(
-    a: [[u16; CELLS as usize]; CHANS as usize],
-    b: [[u16; CELLS as usize]; CHANS as usize],
-) -> bool {
-    a.as_slice() == b.as_slice()
+    a.words == b.words && a.cells == b.cells
 }
 
 // Makes the call with what the inputs tell, and holds it to the lines behind them. A state after is told by the cells of its record and
@@ -231,7 +223,7 @@ fn call(mut inputs: Inputs, due: &Due) -> Result<(), Difference> {
     if let Some(record) = &due.record {
         let told = record.as_slice();
         let state = state_of(told, before.task_count(), before.channel_count());
-        if !is_same_state(state, done.state) || !are_same_values(values_of(told), values) {
+        if !is_same_state(state, done.state) || values_of(told) != values {
             return Err(Difference::State);
         }
     }
