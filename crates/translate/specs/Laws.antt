@@ -4,4 +4,5 @@ pub mod Channels
 pub mod Firsts
 pub mod Joined
 pub mod Read
+pub mod Reasons
 pub mod Examples
