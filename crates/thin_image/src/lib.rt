@@ -7,7 +7,7 @@
 
 ghost use Rattle.std.specs.Prelude.{◌≡◌};
 ghost use Rattle.thin_held.specs.Asked.{row_asked, capacity_asked, first_row_asked};
-ghost use Rattle.thin_image.specs.Opened.{opened_of};
+ghost use Rattle.thin_image.specs.Opened.{opened_of, bytes_of, held_by};
 
 use image_check::ImageFault;
 use meaning::{Chan, Row, Statement, Task};
@@ -31,7 +31,7 @@ impl<'a> Opened<'a> {
 
     // What the check answered at the opening: good, or why the image is refused.
     pub fn answer(self) -> Result<(), ImageFault>
-        ensures { result ≡ self.entry.held.answer }
+        ensures { result ≡ (held_by self.entry).answer }
     {
         self.held.answer
     }
@@ -39,19 +39,19 @@ impl<'a> Opened<'a> {
     // Each takes the struct apart and asks a function of thin_held.
 
     pub fn row(self, n: Row) -> Option<Statement>
-        ensures { result ≡ row_asked self.entry.image.now self.entry.held n }
+        ensures { result ≡ row_asked (bytes_of self.entry) (held_by self.entry) n }
     {
         row_asked(self.image, self.held, n)
     }
 
     pub fn capacity(self, c: Chan) -> Option<u8>
-        ensures { result ≡ capacity_asked self.entry.image.now self.entry.held c }
+        ensures { result ≡ capacity_asked (bytes_of self.entry) (held_by self.entry) c }
     {
         capacity_asked(self.image, self.held, c)
     }
 
     pub fn first_row(self, t: Task) -> Option<Row>
-        ensures { result ≡ first_row_asked self.entry.image.now self.entry.held t }
+        ensures { result ≡ first_row_asked (bytes_of self.entry) (held_by self.entry) t }
     {
         first_row_asked(self.image, self.held, t)
     }
