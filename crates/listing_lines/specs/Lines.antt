@@ -1,9 +1,9 @@
 -- The lines of a listing, as bytes: document 01, 'A listing, whole'.
-use Rattle.std.specs.Prelude.{◌≡◌, Bool, true, false, cond, List, [], ◌∷◌, ◌++◌, ℕ, zero, suc, ◌+◌, ◌/◌, ◌%◌, ltb, take}
+use Rattle.std.specs.Prelude.{◌≡◌, Bool, true, false, cond, List, [], ◌∷◌, ◌++◌, ℕ, zero, suc, ◌+◌, ◌/◌, ◌%◌, ◌≤◌, ltb, length, take}
 use Rattle.meaning.specs.Statuses.{status_number}
 use Rattle.listing_lines.specs.Kinds.{Chan, Task, ChanState, TaskState, Line, EventNumbers}
 
--- A line shows its bytes: a text. And one line that shows more than another, by these bytes.
+-- A line shows its bytes, 128 at the most: a text. And one line that shows more than another, by these bytes.
 abbrev pub line_size : ℕ
 line_size = 128
 
@@ -11,7 +11,7 @@ abbrev pub text_of : Line → List ℕ
 text_of l = l.bytes
 
 abbrev pub Shows : Line → List ℕ → Type 0
-Shows l text = text_of l ≡ text
+Shows l text = (length (text_of l) ≤ line_size) × (text_of l ≡ text)
 
 abbrev pub Adds : Line → List ℕ → Line → Type 0
 Adds l text r = text_of r ≡ text_of l ++ text
@@ -51,7 +51,7 @@ refused_line number place = line_of refused_word (number ∷ place ∷ [])
 abbrev pub turn_line : ℕ → ℕ → EventNumbers → List ℕ
 turn_line pair task e = line_of (decimal_of pair) (task ∷ e.number ∷ e.channel ∷ e.value ∷ e.partner ∷ [])
 
--- "Then task, status .., register, ok, row."
+-- "Then task, status .., register, ok, row.": "status (0 able to move, 1 waiting, 2 ended)" is `status_number`, meaning/specs/Statuses.
 abbrev pub task_word : List ℕ
 task_word = 116 ∷ 97 ∷ 115 ∷ 107 ∷ []
 

@@ -71,7 +71,8 @@ impl Line {
 
     fn word(&mut self, word: &[u8])
         requires { length (text_of self.old) + length word.now ≤ line_size }
-        ensures { Adds self.old word.now self.new }
+        ensures shown { Adds self.old word.now self.new }
+        ensures most { length (text_of self.new) ≤ line_size }
     {
         for &b in word {
             self.byte(b);
@@ -106,7 +107,8 @@ impl Line {
     // The last numbers of a line, and its newline.
     fn end(&mut self, ns: &[u16])
         requires { length (text_of self.old) + 6 * length ns.now < line_size }
-        ensures { Adds self.old (spaced ns.now ++ (10 ∷ [])) self.new }
+        ensures shown { Adds self.old (spaced ns.now ++ (10 ∷ [])) self.new }
+        ensures most { length (text_of self.new) ≤ line_size }
     {
         self.numbers(ns);
         self.byte(b'\n');

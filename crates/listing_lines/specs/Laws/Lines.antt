@@ -6,7 +6,7 @@ use Rattle.std.proofs.Math.ListN.{get_or-append}
 use Rattle.meaning.specs.Events.{event}
 use Rattle.text_words.specs.Words.{run, is_digit, only_digits, leading_zero, is_number, decimal}
 use Rattle.listing_lines.specs.Kinds.{Line}
-use Rattle.listing_lines.specs.Lines.{text_of, Shows, Adds, Blank, digits, decimal_of, spaced, line_of, turn_line, chan_line}
+use Rattle.listing_lines.specs.Lines.{line_size, text_of, Shows, Adds, Blank, digits, decimal_of, spaced, line_of, turn_line, chan_line}
 
 -- DIGITS
 
@@ -153,21 +153,21 @@ adds_number l m k r ns i h a b c =
     (adds_more l m r (spaced (take i ns)) ((32 ∷ []) ++ decimal_of (get_or ns i 0)) a (adds_more m k r (32 ∷ []) (decimal_of (get_or ns i 0)) b c))
 
 -- What a line shows that was built up from a blank one: a text alone, and a first part with numbers and the newline.
-pub shows_all : (l r : Line) (w : List ℕ) → Blank l → Adds l w r → Shows r w
-shows_all l r w e a = a ∙ ap (λ (t : List ℕ). t ++ w) e
+pub shows_all : (l r : Line) (w : List ℕ) → Blank l → Adds l w r → length (text_of r) ≤ line_size → Shows r w
+shows_all l r w e a h = (h, a ∙ ap (λ (t : List ℕ). t ++ w) e)
 
-pub shows_word : (l r : Line) (w : List ℕ) → Blank l → Adds l w r → Shows r w
+pub shows_word : (l r : Line) (w : List ℕ) → Blank l → Adds l w r → length (text_of r) ≤ line_size → Shows r w
 shows_word = shows_all
 
-pub shows_line : (l m r : Line) (first ns : List ℕ) → Blank l → Adds l first m → Adds m (spaced ns ++ (10 ∷ [])) r → Shows r (line_of first ns)
-shows_line l m r first ns e a b = rw (append_assoc first (spaced ns) (10 ∷ [])) (shows_all l r (first ++ (spaced ns ++ (10 ∷ []))) e (adds_more l m r first (spaced ns ++ (10 ∷ [])) a b))
+pub shows_line : (l m r : Line) (first ns : List ℕ) → Blank l → Adds l first m → Adds m (spaced ns ++ (10 ∷ [])) r → length (text_of r) ≤ line_size → Shows r (line_of first ns)
+shows_line l m r first ns e a b h = rw (append_assoc first (spaced ns) (10 ∷ [])) (shows_all l r (first ++ (spaced ns ++ (10 ∷ []))) e (adds_more l m r first (spaced ns ++ (10 ∷ [])) a b) h)
 
 -- Only one line shows a text, and it has the text's length.
 pub shown_length : (l : Line) (text : List ℕ) → Shows l text → length (text_of l) ≡ length text
-shown_length l text s = ap length s
+shown_length l text s = ap length s.1
 
 shown_bytes : (l : Line) (text : List ℕ) → Shows l text → l.bytes ≡ text
-shown_bytes l text s = s
+shown_bytes l text s = s.1
 
 pub shown_once : (l r : Line) (text : List ℕ) → Shows l text → Shows r text → l ≡ r
 shown_once l r text s t = ap (λ (b : List ℕ). record { bytes = b }) (shown_bytes l text s ∙ sym (shown_bytes r text t))
