@@ -1,6 +1,7 @@
 // One block: its call made, and the answer, the state and the records held to what the block tells. A block that can't be read to its
 // end, line by line in the order due, is never the same.
-ghost use Rattle.std.specs.Prelude.{◌≡◌, ◌≢◌, ◌<◌, length, slice_index};
+ghost use Rattle.std.specs.Prelude.{◌≡◌, ◌≢◌, ◌<◌, ◌≤◌, length, slice_index};
+ghost use Rattle.schedule_vectors.specs.Lines.{FirstWord};
 
 use crate::lines::{
     Difference, Line, bytes_of, held, line_behind, line_due, next_told, told, two_numbers,
@@ -47,6 +48,8 @@ struct Due {
 // The line that names the block, or stands where that is due: there is none ahead of it.
 pub(crate) fn name_line(block: &[u8]) -> Line
     ensures tells { result.at < length block.now → (slice_index block.now result.at ≢ 10) × (slice_index block.now result.at ≢ 35) }
+    ensures key { FirstWord block.now result.at result.from }
+    ensures within { result.at ≤ length block.now → result.from ≤ length block.now }
     ensures end { result.to < length block.now → slice_index block.now result.to ≡ 10 }
 {
     line_behind(block, 0)

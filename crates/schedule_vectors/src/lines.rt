@@ -1,6 +1,7 @@
 // A text of blocks, line by line, and what a line tells: a word, two numbers, bytes. Every text is answered: the first line that is not
 // the one due, or can't be read, ends the reading of its block.
 ghost use Rattle.std.specs.Prelude.{◌≡◌, ◌≢◌, ℕ, ◌+◌, ◌-◌, ◌<◌, ◌≤◌, ◌↔◌, [], length, slice_index, slice_range, ◌==◌, ◌||◌, IsTrue, IfOk, IfErr, IfSome, Ok, Err, if◌then◌else◌};
+ghost use Rattle.schedule_vectors.specs.Lines.{FirstWord};
 ghost use Rattle.schedule_vectors.specs.declared.lines.Line.{Line};
 ghost use Rattle.schedule_vectors.specs.declared.lines.Difference.TheVariants.{Unread, OutOfMemory};
 
@@ -148,6 +149,7 @@ pub(crate) fn line_behind(text: &[u8], from: usize) -> Line
     ensures ahead { from ≤ result.at }
     ensures tells { result.at < length text.now → (slice_index text.now result.at ≢ 10) × (slice_index text.now result.at ≢ 35) }
     ensures word { result.at ≤ result.from }
+    ensures first { FirstWord text.now result.at result.from }
     ensures within { result.at ≤ length text.now → result.from ≤ length text.now }
     ensures end { result.to < length text.now → slice_index text.now result.to ≡ 10 }
 {
@@ -176,7 +178,7 @@ pub(crate) fn line_due(text: &[u8], from: usize, key: &[u8]) -> Result<Line, Dif
     ensures tells { IfOk result (λ l. l.at < length text.now → (slice_index text.now l.at ≢ 10) × (slice_index text.now l.at ≢ 35)) }
     ensures key { IfOk result (λ l. l.at ≤ length text.now → slice_range text.now l.at l.from ≡ key.now) }
     ensures end { IfOk result (λ l. l.to < length text.now → slice_index text.now l.to ≡ 10) }
-    ensures other { IfErr result (λ d. (l : Line) × (d ≡ Unread l.at) × (from ≤ l.at) × (l.at ≤ length text.now → slice_range text.now l.at l.from ≢ key.now)) }
+    ensures other { IfErr result (λ d. (l : Line) × (d ≡ Unread l.at) × (from ≤ l.at) × FirstWord text.now l.at l.from × (l.at ≤ length text.now → slice_range text.now l.at l.from ≢ key.now)) }
 {
     let line = line_behind(text, from);
     if part(text, line.at, line.from) == key {
@@ -293,12 +295,11 @@ pub(crate) fn bytes_of(alloc: Global, told: &[u8]) -> Result<Option<Vec<u8>>, Al
         let Some(run) = run_at(told, i) else {
             return Ok(None);
         };
-        if bytes.len().saturating_add(run.times) > ROOM {
+        let end = bytes.len().saturating_add(run.times);
+        if end > ROOM {
             return Ok(None);
         }
-        for _ in 0..run.times {
-            bytes.push(run.byte)?;
-        }
+        bytes.resize(end, run.byte)?;
         i = run.next;
     }
     if bytes.is_empty() {
