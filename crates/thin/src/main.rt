@@ -7,7 +7,7 @@ use image_put::fields_of;
 use meaning::{Chan, Row, Statement, Task};
 use std::io;
 use thin_channel::Channel;
-use thin_image::Opened;
+use thin_image::answers_of;
 
 // The image of `chan 1  task send 0 7 send 0 9 close 0 end  task range 0 end end`, behind three bytes that aren't read. Line by
 // line: those three; rows 0 to 5, which are send 0 7, send 0 9, close 0, stop, range 0, stop; the capacity of channel 0; the
@@ -64,12 +64,12 @@ fn say_first_row(rt: &impl Print, t: u8, a: Option<Row>) -> io::Result<()> {
 
 // The answers of one opening: the check's, and the row, channel and task of this number.
 fn say_asked(rt: &impl Print, image: &[u8], n: u8) -> io::Result<()> {
-    let opened = Opened::open(image);
     let row = u16::from(n);
-    say_check(rt, opened.answer())?;
-    say_row(rt, row, opened.row(Row(row)))?;
-    say_capacity(rt, n, opened.capacity(Chan(n)))?;
-    say_first_row(rt, n, opened.first_row(Task(n)))
+    let a = answers_of(image, Row(row), Chan(n), Task(n));
+    say_check(rt, a.check)?;
+    say_row(rt, row, a.row)?;
+    say_capacity(rt, n, a.capacity)?;
+    say_first_row(rt, n, a.start)
 }
 
 fn say_images(rt: &impl Print) -> io::Result<()> {

@@ -7,7 +7,7 @@
 
 ghost use Rattle.std.specs.Prelude.{◌≡◌};
 ghost use Rattle.thin_held.specs.Asked.{row_asked, capacity_asked, first_row_asked};
-ghost use Rattle.thin_image.specs.Opened.{opened_of, bytes_of, held_by};
+ghost use Rattle.thin_image.specs.Opened.{opened_of, bytes_of, held_by, answers_of};
 
 use image_check::ImageFault;
 use meaning::{Chan, Row, Statement, Task};
@@ -17,6 +17,15 @@ use thin_held::{Held, capacity_asked, first_row_asked, hold, row_asked};
 pub struct Opened<'a> {
     image: &'a [u8],
     held: Held,
+}
+
+// The answers to a question of each kind.
+#[derive(Clone, Copy)]
+pub struct Answers {
+    pub check: Result<(), ImageFault>,
+    pub row: Option<Statement>,
+    pub capacity: Option<u8>,
+    pub start: Option<Row>,
 }
 
 impl<'a> Opened<'a> {
@@ -54,5 +63,19 @@ impl<'a> Opened<'a> {
         ensures { result ≡ first_row_asked (bytes_of self.entry) (held_by self.entry) t }
     {
         first_row_asked(self.image, self.held, t)
+    }
+}
+
+// A question of each kind, of an image that is opened once for all of them. Whoever calls this has no such struct in hand.
+#[tactic(auto, unfolding(thin_held::specs::Asked::held_of))]
+pub fn answers_of(image: &[u8], n: Row, c: Chan, t: Task) -> Answers
+    ensures { result ≡ answers_of image.now n c t }
+{
+    let opened = Opened::open(image);
+    Answers {
+        check: opened.answer(),
+        row: opened.row(n),
+        capacity: opened.capacity(c),
+        start: opened.first_row(t),
     }
 }
