@@ -51,4 +51,4 @@ pub returns : goal.returns
 returns c =
     let a = c.args in
     let l = c.loop-i in
-    λ s b. walked_all a.body.now a.c s a.before.now a.state.now l.state _ b l.i (search rules) l.invariant.1.1.0 l.invariant.1.1.1.0 l.invariant.1.1.1.1.0 l.kept l.w (l.invariant.1.1.1.1.1 s b) c.put_order.ensures.made _ (search rules)
+    λ s b. walked_all a.body.now a.c s a.before.now a.state.now l.state _ b l.i (search rules) l.invariant.1.1.0 l.invariant.1.1.1.0 l.kept l.w (l.invariant.1.1.1.1.1 s b) c.put_order.ensures.made l.invariant.1.1.1.1.0 _ (search rules)

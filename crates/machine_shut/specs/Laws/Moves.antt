@@ -14,7 +14,7 @@ use Rattle.machine_records.specs.Cells.{over, cons_if, keep}
 use Rattle.machine_records.specs.Laws.Cells.{lap_keeps, lap_drops}
 use Rattle.machine_records.specs.Records.{Records, task_in, order_of, got_task, no_tasks, with_tasks, with_order}
 use Rattle.machine_records.specs.Waiters.{is_offer, one, count_of, matched_at, waits_at, count_waiters}
-use Rattle.machine_records.specs.Plans.{idle, woken_by, woken_tasks}
+use Rattle.machine_records.specs.Plans.{idle, woken_by, woken_tasks, woken_all}
 use Rattle.machine_store.specs.Store.{records_of, RowIn, Plain, Whole, Made}
 use Rattle.machine_store.specs.Laws.Store.{row_same, order_length}
 use Rattle.machine_shut.specs.Moves.{Began, WokenSo}
@@ -125,7 +125,7 @@ others_same z y x xs e q = e ∙ ap (λ r. with_tasks r xs) q ∙ ap (with_tasks
 
 -- The whole walk, and the order put anew.
 module _ (rs : List ℕ) (c : Chan) (s : Records) (before : List ℕ) (x₀ x y : State) (b : Began before s (records_of x₀)) (i : ℕ) (e : i ≡ (records_of x₀).waiting % 17)
-    (same : records_of x ≡ with_tasks (records_of x₀) (records_of x).tasks) (plain : Plain x₀.cells → Plain x.cells) (wholly : Whole x₀ → Whole x) (kept : List Task) (n : ℕ)
+    (same : records_of x ≡ with_tasks (records_of x₀) (records_of x).tasks) (plain : Plain x₀.cells → Plain x.cells) (kept : List Task) (n : ℕ)
     (p : WalkedSo rs c s (records_of x₀).tasks (records_of x).tasks kept n i) (q : Made x y (λ z. with_order z kept n)) where
   whole : i ≡ s.waiting % 17
   whole = e ∙ ap (λ (m : ℕ). m % 17) (sym b.waiting)
@@ -140,15 +140,23 @@ module _ (rs : List ℕ) (c : Chan) (s : Records) (before : List ℕ) (x₀ x y 
   order_count : n ≡ length (keep (idle rs s c) (order_of s))
   order_count = p.kept_count ∙ ap (λ m. length (keep (idle rs s c) (take m s.order))) whole
 
-  pub walked_all : (m : ℕ) → m ≡ i - n → WokenSo rs c s x₀ y m
-  walked_all m em = record {
-    made = record {
-      same = q.same ∙ ap (λ z. with_order z kept n) (same ∙ ap (with_tasks (records_of x₀)) (sym all_woken))
-          ∙ ap₂ (with_order (with_tasks (records_of x₀) (woken_tasks rs s c (order_of s) (records_of x₀).tasks))) order_are order_count;
-      plain = λ z. q.plain (plain z);
-      whole = λ z. q.whole (wholly z);
-    };
-    counted = em ∙ ap₂ (λ (a d : ℕ). a - d) whole order_count ∙ woken_count rs s c (ap (λ (o : List Task). length o) b.order ∙ order_length x₀.words x₀.cells);
+  -- What the whole walk leaves, of arrays of any length: the records with all woken, cells that stay plain, and how many woke.
+  pub walked_same : records_of y ≡ woken_all rs s c (records_of x₀)
+  walked_same =
+      q.same ∙ ap (λ z. with_order z kept n) (same ∙ ap (with_tasks (records_of x₀)) (sym all_woken))
+      ∙ ap₂ (with_order (with_tasks (records_of x₀) (woken_tasks rs s c (order_of s) (records_of x₀).tasks))) order_are order_count
+
+  pub walked_plain : Plain x₀.cells → Plain y.cells
+  walked_plain z = q.plain (plain z)
+
+  pub walked_counted : (m : ℕ) → m ≡ i - n → m ≡ count_waiters rs s Receiving c
+  walked_counted m em = em ∙ ap₂ (λ (a d : ℕ). a - d) whole order_count ∙ woken_count rs s c (ap (λ (o : List Task). length o) b.order ∙ order_length x₀.words x₀.cells)
+
+  -- And of arrays that keep their lengths.
+  pub walked_all : (Whole x₀ → Whole x) → (m : ℕ) → m ≡ i - n → WokenSo rs c s x₀ y m
+  walked_all wholly m em = record {
+    made = record { same = walked_same; plain = walked_plain; whole = λ z. q.whole (wholly z) };
+    counted = walked_counted m em;
   }
 
 -- A turn's first changes leave the order as it was.
