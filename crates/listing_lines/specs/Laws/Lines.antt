@@ -156,8 +156,8 @@ adds_number l m k r ns i h a b c =
 pub shows_all : (l r : Line) (w : List ℕ) → Blank l → Adds l w r → length (text_of r) ≤ line_size → Shows r w
 shows_all l r w e a h = (h, a ∙ ap (λ (t : List ℕ). t ++ w) e)
 
-pub shows_word : (l r : Line) (w : List ℕ) → Blank l → Adds l w r → length (text_of r) ≤ line_size → Shows r w
-shows_word = shows_all
+pub shows_word : (l r : Line) (w : List ℕ) → length w ≤ line_size → Blank l → Adds l w r → Shows r w
+shows_word l r w h e a = let t = a ∙ ap (λ (u : List ℕ). u ++ w) e in (omega (arith, h, ap length t), t)
 
 pub shows_line : (l m r : Line) (first ns : List ℕ) → Blank l → Adds l first m → Adds m (spaced ns ++ (10 ∷ [])) r → length (text_of r) ≤ line_size → Shows r (line_of first ns)
 shows_line l m r first ns e a b h = rw (append_assoc first (spaced ns) (10 ∷ [])) (shows_all l r (first ++ (spaced ns ++ (10 ∷ []))) e (adds_more l m r first (spaced ns ++ (10 ∷ [])) a b) h)
