@@ -199,15 +199,20 @@ pub(crate) fn told(text: &[u8], line: Line) -> &[u8]
     part(text, line.from, line.to)
 }
 
-// A digit's value: 0 to 9 and a to f.
+// A digit's value: 0 to 9 and a to f. It is chosen ahead of the one test, so that no digit takes a branch of its own.
 fn digit_of(byte: u8) -> Option<u8>
     ensures { IfSome result (λ d. d < 16) }
 {
-    match byte {
-        b'0'..=b'9' => Some(byte - b'0'),
-        b'a'..=b'f' => Some(byte - b'a' + 10),
-        _ => None,
-    }
+    let decimal = byte.wrapping_sub(b'0');
+    let letter = byte.wrapping_sub(b'a');
+    let digit = if decimal < 10 {
+        decimal
+    } else if letter < 6 {
+        letter + 10
+    } else {
+        16
+    };
+    if digit < 16 { Some(digit) } else { None }
 }
 
 // The decimal number at a place, if a digit stands there and not too many.
@@ -299,7 +304,11 @@ pub(crate) fn bytes_of(alloc: Global, told: &[u8]) -> Result<Option<Vec<u8>>, Al
         if end > ROOM {
             return Ok(None);
         }
-        bytes.resize(end, run.byte)?;
+        if run.times == 1 {
+            bytes.push(run.byte)?;
+        } else {
+            bytes.resize(end, run.byte)?;
+        }
         i = run.next;
     }
     if bytes.is_empty() {
