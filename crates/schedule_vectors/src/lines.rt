@@ -1,6 +1,6 @@
 // A text of blocks, line by line, and what a line tells: a word, two numbers, bytes. Every text is answered: the first line that is not
 // the one due, or can't be read, ends the reading of its block.
-ghost use Rattle.std.specs.Prelude.{◌≡◌, ◌≢◌, ℕ, ◌+◌, ◌-◌, ◌<◌, ◌≤◌, ◌↔◌, [], length, slice_index, slice_range, ◌==◌, ◌||◌, IsTrue, IfOk, IfErr, IfSome, Ok, Err, if◌then◌else◌};
+ghost use Rattle.std.specs.Prelude.{◌≡◌, ◌≢◌, ℕ, ◌+◌, ◌-◌, ◌<◌, ◌≤◌, ◌↔◌, [], length, slice_index, slice_range, ◌==◌, ◌||◌, IsTrue, IfOk, IfErr, IfSome, Some, None, Ok, Err, if◌then◌else◌};
 ghost use Rattle.schedule_vectors.specs.Lines.{FirstWord};
 ghost use Rattle.schedule_vectors.specs.declared.lines.Line.{Line};
 ghost use Rattle.schedule_vectors.specs.declared.lines.Difference.TheVariants.{Unread, OutOfMemory};
@@ -199,9 +199,15 @@ pub(crate) fn told(text: &[u8], line: Line) -> &[u8]
     part(text, line.from, line.to)
 }
 
-// A digit's value: 0 to 9 and a to f. It is chosen ahead of the one test, so that no digit takes a branch of its own.
+// A digit's value: 0 to 9 and a to f. A byte ahead of '0' or 'a' wraps round to a large number, and 16 stands for no digit, so that one
+// test tells: the compiler chooses the value without a branch, which digits in no order would make it guess.
 fn digit_of(byte: u8) -> Option<u8>
-    ensures { IfSome result (λ d. d < 16) }
+    ensures within { IfSome result (λ d. d < 16) }
+    ensures decimal { 48 ≤ byte → byte ≤ 57 → result ≡ Some (byte - 48) }
+    ensures letter { 97 ≤ byte → byte ≤ 102 → result ≡ Some (byte - 87) }
+    ensures below { byte < 48 → result ≡ None }
+    ensures between { 57 < byte → byte < 97 → result ≡ None }
+    ensures above { 102 < byte → result ≡ None }
 {
     let decimal = byte.wrapping_sub(b'0');
     let letter = byte.wrapping_sub(b'a');
@@ -304,6 +310,7 @@ pub(crate) fn bytes_of(alloc: Global, told: &[u8]) -> Result<Option<Vec<u8>>, Al
         if end > ROOM {
             return Ok(None);
         }
+        // most runs are of one byte, for which `push` takes less time
         if run.times == 1 {
             bytes.push(run.byte)?;
         } else {
